@@ -2,6 +2,7 @@
 
 import os
 import re
+import shutil
 import subprocess
 import tempfile
 from dataclasses import dataclass
@@ -29,7 +30,8 @@ BLOCKS = {
 def build_library():
     """Compiles the library that is loaded before a program."""
     LIBRARY.parent.mkdir(exist_ok=True)
-    command = ["rustc", "--edition", "2024", "-O", "--crate-type", "cdylib", "-o", LIBRARY]
+    rustc = shutil.which("rustc") or Path.home() / ".cargo" / "bin" / "rustc"
+    command = [rustc, "--edition", "2024", "-O", "--crate-type", "cdylib", "-o", LIBRARY]
     subprocess.run([*command, TOP / "checks" / "allocations.rs"], check=True)
 
 

@@ -100,8 +100,8 @@ CanBeLowered s link way giver to =
     (plan : Plan) × (l : Link) × (call : Call) × (v : Val) × (answers : List ℕ)
     × IsLinkOf l link × CanHand plan s l way call v answers giver to
 
--- What comes of lowering what can be handed over, whose core values are these: it is handed over, or
--- that stops by a trap.
+-- What comes of lowering what can be handed over, whose core values are these: it is handed over,
+-- or that stops by a trap.
 abbrev pub LowersOrStops : {A : Type 0} → CodedState → CodedState → CodedLink → Way → ℕ → Receiver
     → List CoreValue → Result A Trap → Type 0
 LowersOrStops old new link way giver to slots r =

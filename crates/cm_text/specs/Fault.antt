@@ -17,3 +17,8 @@ IfIllFormed Memory holds = Unit {0}
 abbrev pub IsMemory : TextFault → Type 0
 IsMemory (IllFormed at) = ⊥
 IsMemory Memory = Unit {0}
+
+-- the number by which the fault is known
+abbrev pub text_fault_number : TextFault → ℕ
+text_fault_number (IllFormed at) = 1
+text_fault_number Memory = 2

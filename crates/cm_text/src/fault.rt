@@ -13,3 +13,18 @@ pub enum TextFault {
     #[error("out of memory")]
     Memory,
 }
+
+impl TextFault {
+    ghost use Rattle.std.specs.Prelude.{◌≡◌};
+    ghost use Rattle.cm_text.specs.Fault.{text_fault_number};
+
+    /// The number by which the fault is known: 1 for `IllFormed`, 2 for `Memory`.
+    pub fn number(self) -> u8
+        ensures { result ≡ text_fault_number self }
+    {
+        match self {
+            TextFault::IllFormed { .. } => 1,
+            TextFault::Memory => 2,
+        }
+    }
+}

@@ -1,7 +1,10 @@
 -- What `hex` decodes is what the digits spell.
 use Rattle.std.proofs.Common.{◌≡◌, ◌≢◌, ℕ, ◌+◌, ◌*◌, ◌%◌, ◌==◌, if◌then◌else◌, true, false, List}
 use Rattle.std.proofs.Common.{[], ◌∷◌, length, Option, Some, None, Result, Ok, Err, refl, ap, ◌∙◌}
-use Rattle.std.proofs.Common.{arith}
+use Rattle.std.proofs.Common.{arith, inl, inr, ◌-◌, ◌&&◌}
+use Rattle.std.specs.Char.{is_ascii_hexdigit}
+use Rattle.std.specs.List.{list_all}
+use Rattle.std.proofs.lemmas.Bool.{and_parts, cases_lt}
 use Rattle.hex.specs.Hex.{decode_of, decode_pairs, digit_or_error, hex_digit_value, pair_value}
 use Rattle.hex.specs.Hex.{value_at, ◌>>=◌}
 use Rattle.hex.specs.declared.error.FromHexError.{FromHexError}
@@ -99,3 +102,52 @@ some-bytes [] bytes h pairs = absurd (h refl)
 some-bytes (c ∷ []) bytes h pairs = absurd pairs
 some-bytes (c ∷ d ∷ text) [] h pairs = absurd pairs
 some-bytes (c ∷ d ∷ text) (b ∷ bytes) h pairs = λ e. absurd (cc)
+
+-- a hex digit has a value
+digit_value_of : (c : ℕ) → is_ascii_hexdigit c ≡ true → (v : ℕ) × IsDigit c v
+digit_value_of c h = elim (cases_lt c 58) [
+  | inl low ↦ (c - 48, grind arith)
+  | inr high ↦ elim (cases_lt c 71) [
+    | inl upper ↦ (c - 55, grind arith)
+    | inr lower ↦ (c - 87, grind arith)
+  ]
+]
+
+-- and what has one is a hex digit
+digit_is : (c v : ℕ) → IsDigit c v → is_ascii_hexdigit c ≡ true
+digit_is c v h = grind arith
+
+-- an even number of hex digits are pairs of some bytes
+pub pairs_of : (text : List ℕ) → length text % 2 ≡ 0 → list_all is_ascii_hexdigit text ≡ true
+    → (bytes : List ℕ) × ArePairs text bytes
+pairs_of [] even digits = ([], tt)
+pairs_of (c ∷ []) even digits = absurd (omega (arith, even))
+pairs_of (c ∷ d ∷ text) even digits =
+    let first = and_parts (is_ascii_hexdigit c) (is_ascii_hexdigit d && list_all is_ascii_hexdigit text) digits in
+    let second = and_parts (is_ascii_hexdigit d) (list_all is_ascii_hexdigit text) first.1 in
+    let high = digit_value_of c first.0 in
+    let low = digit_value_of d second.0 in
+    let rest = pairs_of text (omega (arith, even)) second.1 in
+    ((16 * high.0 + low.0) ∷ rest.0, ((high.0, low.0, high.1, low.1, refl), rest.1))
+
+-- and the other way round
+pub digits_of : (text bytes : List ℕ) → ArePairs text bytes
+    → (length text % 2 ≡ 0) × (list_all is_ascii_hexdigit text ≡ true)
+digits_of [] [] h = (refl, refl)
+digits_of [] (b ∷ bytes) h = absurd h
+digits_of (c ∷ []) bytes h = absurd h
+digits_of (c ∷ d ∷ text) [] h = absurd h
+digits_of (c ∷ d ∷ text) (b ∷ bytes) ((high, low, hc, hd, e), rest) =
+    let more = digits_of text bytes rest in
+    (omega (arith, more.0), rw (digit_is c high hc, digit_is d low hd) more.1)
+
+-- a text of some bytes is not empty
+pub some-text : (text bytes : List ℕ) → bytes ≢ [] → ArePairs text bytes → text ≢ []
+some-text [] [] h pairs = absurd (h refl)
+some-text [] (b ∷ bytes) h pairs = absurd pairs
+some-text (c ∷ text) bytes h pairs = λ e. absurd (cc)
+
+-- a text whose length is not 0 is not empty
+pub text-of-length : (text : List ℕ) → (length text == 0) ≡ false → text ≢ []
+text-of-length [] h = absurd (cc)
+text-of-length (c ∷ text) h = λ e. absurd (cc)

@@ -1,10 +1,11 @@
 //! The bytes that a script writes, in hex digits.
 
-ghost use Rattle.std.specs.Prelude.{◌≡◌, ◌↔◌, List, ℕ, IfOk, IfErr};
-ghost use Rattle.cm_tool_script.specs.HexBytes.{Spells};
+ghost use Rattle.std.specs.Prelude.{◌≡◌, ◌≢◌, List, [], ℕ, Err, IsTrue, IfOk, IfErr};
+ghost use Rattle.std.specs.Char.{is_ascii_hexdigit};
+ghost use Rattle.std.specs.List.{list_all};
+ghost use Rattle.cm_tool_script.specs.HexBytes.{ArePairs, Spells};
 ghost use Rattle.cm_tool_script.specs.Faults.{script_fault_number};
 
-use hex::FromHexError;
 use std::alloc::Global;
 use thiserror::Error;
 
@@ -28,36 +29,45 @@ impl ScriptFault {
     }
 }
 
+fn are_hex_digits(text: &[u8]) -> bool
+    ensures { result ≡ list_all is_ascii_hexdigit text.now }
+{
+    text.iter().all(|digit| digit.is_ascii_hexdigit())
+}
+
+/// Whether a text is one or more pairs of hex digits.
+fn is_pairs(text: &str) -> bool
+    ensures some { IsTrue result → (bytes : List ℕ) × (bytes ≢ []) × ArePairs text.now bytes }
+    ensures all { (bytes : List ℕ) → bytes ≢ [] → ArePairs text.now bytes → IsTrue result }
+{
+    if text.is_empty() {
+        return false;
+    }
+    text.len() % 2 == 0 && are_hex_digits(text.as_bytes())
+}
+
 /// The bytes that a text spells: none for `-`, else one for each two hex digits, of either case,
 /// the high four bits first.
 ///
-/// Each other text, also the empty one, is refused with `BadHex`. `Memory` comes where there is no
-/// memory for the bytes.
+/// Exactly the other texts, also the empty one, are refused with `BadHex`: those that are neither
+/// `-` nor an even number, at least two, of hex digits. `Memory` comes where there is no memory for
+/// the bytes.
 pub fn script_bytes(alloc: Global, text: &str) -> Result<Vec<u8>, ScriptFault>
     ensures spelled { IfOk result (λ bytes. Spells text.now bytes.items) }
     ensures complete { (bytes : List ℕ)
         → Spells text.now bytes
         → IfErr result (λ e. e ≡ ScriptFault.Memory) }
+    ensures refused { ((bytes : List ℕ) → Spells text.now bytes → ⊥)
+        → result ≡ Err ScriptFault.BadHex }
 {
     if text == "-" {
         return Ok(Vec::new(alloc));
     }
-    if text.is_empty() {
+    if !is_pairs(text) {
         return Err(ScriptFault::BadHex);
     }
     match hex::decode(alloc, text) {
         Ok(bytes) => Ok(bytes),
-        Err(error) => Err(fault_of(error)),
-    }
-}
-
-fn fault_of(error: FromHexError) -> ScriptFault
-    ensures { (result ≡ ScriptFault.Memory) ↔ (error ≡ FromHexError.OutOfMemory) }
-{
-    match error {
-        FromHexError::OutOfMemory => ScriptFault::Memory,
-        FromHexError::InvalidHexCharacter { .. }
-        | FromHexError::OddLength
-        | FromHexError::InvalidStringLength => ScriptFault::BadHex,
+        Err(_) => Err(ScriptFault::Memory),
     }
 }

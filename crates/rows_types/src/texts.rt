@@ -23,7 +23,14 @@ pub fn answer(alloc: Global, words: &[&str], line: &mut Line) {
         "ascii_units" => write_ascii_units(alloc, rest, line),
         "widen" => write_wide(alloc, &line.bytes(alloc, first), line),
         "narrow" => write_narrow(alloc, &line.bytes(alloc, first), line),
+        "faults" => write_faults(line),
         _ => line.refuse(),
+    }
+}
+
+fn write_faults(line: &mut Line) {
+    for fault in [TextFault::IllFormed { at: 0 }, TextFault::Memory] {
+        line.number_of_debug(&fault, fault.number());
     }
 }
 

@@ -1,20 +1,26 @@
-use Rattle.std.proofs.Common.{rules, ◌≢◌, inl, inr, []}
-use Rattle.cm_tool_script.proofs.HexBytesLaws.{ArePairs-decode_of, decode_of-pairs, some-bytes}
+use Rattle.std.proofs.Common.{◌≡◌, inl, inr, [], codes, refl, rules}
+use Rattle.cm_tool_script.proofs.HexBytesLaws.{ArePairs-decode_of, some-bytes, some-text}
 use Rattle.cm_tool_script.proofs.hex_bytes.script_bytes.Goals as goal
+
+pub returns-then-eq-clause-refused : goal.returns-then-eq-clause-refused
+returns-then-eq-clause-refused c none =
+    let dash : c.args.text.now ≡ codes "-" = search (rules, c.if-eq.true) in
+    absurd (none [] (inl (dash, refl)))
 
 pub returns-in-Ok-clause-spelled : goal.returns-in-Ok-clause-spelled
 returns-in-Ok-clause-spelled c =
-    let pairs = ArePairs-decode_of c.args.text.now c.in-Ok.bytes.items c.in-Ok.ensures.ok in
-    let filled : c.args.text.now ≢ [] = λ e. search (rules, e) in
-    inr (some-bytes c.args.text.now c.in-Ok.bytes.items filled pairs, pairs)
+    let text = c.args.text.now in
+    let bytes = c.in-Ok.bytes.items in
+    let pairs = ArePairs-decode_of text bytes c.in-Ok.ensures.ok in
+    let some = c.if-not-is_pairs.ensures.some refl in
+    inr (some-bytes text bytes (some-text text some.0 some.1 some.2) pairs, pairs)
 
-pub returns-in-Err : goal.returns-in-Err
-returns-in-Err c = record {
-  spelled = tt;
-  complete = λ bytes. elim [
-    | inl none ↦ absurd (let text = none.0 in search (rules, text))
-    | inr some ↦
-        let decoded = decode_of-pairs c.args.text.now bytes some.1 in
-        c.fault_of.ensures.1 (elim c.in-Err.ensures.err [ inl memory ↦ memory | inr bad ↦ absurd (cc (decoded, bad)) ])
-  ];
-}
+pub returns-in-Ok-clause-refused : goal.returns-in-Ok-clause-refused
+returns-in-Ok-clause-refused c none =
+    let some = c.if-not-is_pairs.ensures.some refl in
+    absurd (none some.0 (inr (some.1, some.2)))
+
+pub returns-in-Err-clause-refused : goal.returns-in-Err-clause-refused
+returns-in-Err-clause-refused c none =
+    let some = c.if-not-is_pairs.ensures.some refl in
+    absurd (none some.0 (inr (some.1, some.2)))
