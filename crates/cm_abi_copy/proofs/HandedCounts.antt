@@ -1,5 +1,5 @@
 -- How many handles were handed over.
-use Rattle.std.proofs.Common.{◌≡◌, ℕ, suc, ◌+◌, List, [], ◌∷◌, ◌++◌, length, Ok, Err, refl, arith, ap, length-append}
+use Rattle.std.proofs.Common.{◌≡◌, ℕ, suc, ◌+◌, List, [], ◌∷◌, length, Ok, Err, refl, arith, ap, length-append}
 use Rattle.std.specs.Prelude.{Result}
 use Rattle.cm_handles.specs.Handles.{Handles, look_up, if_not_lent, if_owned}
 use Rattle.cm_handles.specs.declared.handle.Handle.{Handle}

@@ -1,6 +1,6 @@
 -- What is scanned is what is lifted.
 use Rattle.std.proofs.Common.{◌≡◌, ℕ, ◌^◌, ◌<◌, ◌≤◌, Bool, true, false, List, [], ◌∷◌, ◌++◌, Result, Ok, Err, refl, sym, ap, subst, ◌∙◌, arith}
-use Rattle.std.specs.Prelude.{◌+◌, ◌-◌, if◌then◌else◌}
+use Rattle.std.specs.Prelude.{◌+◌, ◌-◌, ◌↔◌, if◌then◌else◌}
 use Rattle.cm_types.specs.declared.core_value.CoreValue.{CoreValue}
 use Rattle.cm_types.specs.Types.{Fields}
 use Rattle.cm_types.specs.Values.{Val}
@@ -11,6 +11,7 @@ use Rattle.cm_abi_model.specs.declared.encoding.StringEncoding.{StringEncoding}
 use Rattle.cm_abi_model.specs.declared.encoding.StringEncoding.TheVariants.{Latin1OrUtf16}
 use Rattle.cm_abi_model.specs.declared.fault.AbiFault.{AbiFault}
 use Rattle.cm_abi_model.specs.Denotes.{Denotes}
+use Rattle.cm_abi_model.specs.LiftStops.{LiftStops}
 use Rattle.cm_abi_model.specs.Parts.{Part, element_part, parts_in}
 use Rattle.cm_abi_model.specs.Requests.{call_parts, is_spilled, tuple_of}
 use Rattle.cm_abi_model.specs.Taken.{MAX_CONTENT, Transferable, content_of, met, tags_of}
@@ -135,6 +136,15 @@ only_given law w memory table encoding way l types slots v f is same denoted can
     let found = law w way types slots v denoted can in
     not_both (lift_of w.memory w.table w.encoding way (layout_of_fields_at types) slots) (v, found.0, found.1) f found.2
     (sym (same_lift w memory table encoding way l (layout_of_fields_at types) slots is same) ∙ e)
+
+abbrev pub StopsLaw : Type 0
+StopsLaw = (w : View) (way : Way) (types : Fields) (slots : List CoreValue) (f : AbiFault)
+    → lift_of w.memory w.table w.encoding way (layout_of_fields_at types) slots ≡ Err f ↔ LiftStops w way types slots f
+
+pub stops_given : StopsLaw → (w : View) (memory : List ℕ) (table : Handles) (encoding : StringEncoding) (way : Way) (l : LayoutTy) (types : Fields) (slots : List CoreValue) (f : AbiFault)
+    → IsGivenBy w memory table encoding → l ≡ layout_of_fields_at types → lift_of memory table encoding way l slots ≡ Err f → LiftStops w way types slots f
+stops_given law w memory table encoding way l types slots f is same e =
+    (law w way types slots f).0 (sym (same_lift w memory table encoding way l (layout_of_fields_at types) slots is same) ∙ e)
 
 -- ---- what is scanned can be asked for
 

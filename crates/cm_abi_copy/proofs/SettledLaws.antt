@@ -14,7 +14,7 @@ use Rattle.cm_abi_model.specs.Denotes.{Denotes}
 use Rattle.cm_abi_model.specs.Parts.{Part, text_part, element_part}
 use Rattle.cm_abi_model.specs.Receives.{call_kinds}
 use Rattle.cm_abi_model.specs.Regions.{AreApart, ArePlaced}
-use Rattle.cm_abi_model.specs.Requests.{IsStored, call_parts, part_requests, tuple_of}
+use Rattle.cm_abi_model.specs.Requests.{call_parts, part_requests, tuple_of}
 use Rattle.cm_abi_model.specs.Stores.{Given}
 use Rattle.cm_abi_model.specs.Views.{View, Way, flat_limit, params, results}
 use Rattle.cm_abi_model.specs.Ways.{way_of}

@@ -1,22 +1,29 @@
 -- Scanning what a call passes, by the walk of the code (CanonicalABI.md, "Lifting and Lowering
 -- Values").
-use Rattle.std.specs.Prelude.{◌≡◌, ℕ, ◌+◌, List, [], Ok}
+use Rattle.std.specs.Prelude.{◌≡◌, ℕ, ◌+◌, List, [], Ok, ◌⊎◌}
 use Rattle.cm_types.specs.declared.core_value.CoreValue.{CoreValue}
 use Rattle.cm_types.specs.Types.{Fields}
 use Rattle.cm_types.specs.Values.{Val}
 use Rattle.cm_handles.specs.Handles.{Handles}
 use Rattle.cm_layout.specs.Shapes.{LayoutTy, layout_of_fields_at}
 use Rattle.cm_abi_model.specs.declared.encoding.StringEncoding.{StringEncoding}
+use Rattle.cm_abi_model.specs.declared.fault.AbiFault.{AbiFault}
+use Rattle.cm_abi_model.specs.declared.fault.AbiFault.TheVariants as fault
 use Rattle.cm_abi_model.specs.Answered.{unanswered}
+use Rattle.cm_abi_model.specs.Denotes.{Denotes}
+use Rattle.cm_abi_model.specs.LiftStops.{LiftStops}
 use Rattle.cm_abi_model.specs.Receives.{leaves_in}
-use Rattle.cm_abi_model.specs.Requests.{tuple_of}
+use Rattle.cm_abi_model.specs.Requests.{call_parts, tuple_of}
 use Rattle.cm_abi_model.specs.Scanned.{Scanned}
-use Rattle.cm_abi_model.specs.Taken.{MAX_CONTENT}
+use Rattle.cm_abi_model.specs.Taken.{MAX_CONTENT, Transferable}
+use Rattle.cm_abi_model.specs.Views.{View}
+use Rattle.cm_abi_model.specs.Ways.{way_of}
 use Rattle.cm_abi_load.specs.Outcomes.{State}
 use Rattle.cm_abi_load.specs.Reading.{Source}
 use Rattle.cm_abi_lift.specs.FlatReading.{read_passed}
 use Rattle.cm_abi_lift.specs.FlatRecords.{passed_records}
 use Rattle.cm_abi_lift.specs.Lifts.{fresh}
+use Rattle.cm_abi_lift.specs.declared.passed.Passed.{Passed}
 
 -- what is read from
 abbrev pub giver_of : List ℕ → Handles → StringEncoding → Source
@@ -44,3 +51,16 @@ pub record KeepsNothing (w : Source) (target : StringEncoding) (limit : ℕ) (l 
   pub read : read_passed w limit l slots fresh ≡ Ok (v, after)
   pub parts : passed_records w target limit l slots v ≡ []
   pub handles : after.handles ≡ []
+
+-- Why what is passed is not scanned in a view.
+pub record IsFaultOfScan (w : View) (types : Fields) (passed : Passed) (f : AbiFault)
+    : Type 0 where
+  -- it is the first in reading order that is wrong, or there is no memory
+  pub first : (f ≡ fault.EngineMemory)
+      ⊎ LiftStops w (way_of passed.way) types passed.slots.now f
+  -- of a value that has no part and no handle there is none
+  pub something : (v : Val) → Denotes w (way_of passed.way) types passed.slots.now v
+      → call_parts (way_of passed.way) types v ≡ [] → leaves_in (tuple_of types) v ≡ [] → ⊥
+  -- of a value that can be handed over there is none but that there is no memory
+  pub memory : (v : Val) → Denotes w (way_of passed.way) types passed.slots.now v
+      → Transferable w (way_of passed.way) types passed.slots.now v → f ≡ fault.EngineMemory

@@ -5,14 +5,10 @@ ghost use Rattle.std.specs.Prelude.{slice_index};
 ghost use Rattle.cm_types.specs.CoreValues.{kind_of};
 ghost use Rattle.cm_types.specs.Types.{Fields};
 ghost use Rattle.cm_types.specs.Values.{Val};
-ghost use Rattle.cm_abi_model.specs.Receives.{NoneImplemented, Passes, Receives, call_bytes};
-ghost use Rattle.cm_abi_model.specs.Stores.{Framed};
 ghost use Rattle.cm_abi_model.specs.Views.{View};
 ghost use Rattle.cm_abi_model.specs.Ways.{way_of};
-ghost use Rattle.cm_abi_model.specs.Giving.{Gives};
-ghost use Rattle.cm_abi_model.specs.Copies.{IsFaultOfCopying, IsReceivingIn, PartsAreApart};
-ghost use Rattle.cm_abi_model.specs.Copies.{given_by, handles_of_values};
-ghost use Rattle.cm_abi_copy.specs.Copies.{FoundCanBeCopied};
+ghost use Rattle.cm_abi_model.specs.Copies.{IsFaultOfCopying, handles_of_values};
+ghost use Rattle.cm_abi_copy.specs.Copies.{FoundCanBeCopied, IsCopied};
 
 use crate::copier::Copier;
 use crate::copy_call;
@@ -60,33 +56,11 @@ pub fn copy(
         × FoundCanBeCopied (length memory.old) (map kind_of slots.old) giver found.now kept.old
         answers types v }
     requires few { length memory.old < 2 ^ 32 }
-    ensures received { (giver w : View) (answers : List ℕ) (types : Fields) (v : Val)
+    ensures copied { (giver : View) (answers : List ℕ) (types : Fields) (v : Val)
         → FoundCanBeCopied (length memory.old) (map kind_of slots.old) giver found.now kept.old
         answers types v
-        → IsReceivingIn w kept.old.parts.target to memory.new table.new.handles
-        → OnOk result (Receives w (way_of found.now.passed.way) types slots.new
-        (given_by kept.old.parts answers types v to table.old.handles) v) }
-    ensures denoted { (giver w : View) (answers : List ℕ) (types : Fields) (v : Val)
-        → FoundCanBeCopied (length memory.old) (map kind_of slots.old) giver found.now kept.old
-        answers types v
-        → IsReceivingIn w kept.old.parts.target to memory.new table.new.handles
-        → w.encoding ≡ kept.old.parts.target
-        → NoneImplemented w (handles_of_values types v)
-        → OnOk result (Passes w (way_of found.now.passed.way) types slots.new v) }
-    ensures framed { (giver : View) (answers : List ℕ) (types : Fields) (v : Val)
-        → FoundCanBeCopied (length memory.old) (map kind_of slots.old) giver found.now kept.old
-        answers types v
-        → OnOk result (Framed memory.old memory.new
-        (call_bytes (given_by kept.old.parts answers types v to table.old.handles)
-        (way_of found.now.passed.way) types v)) }
-    ensures handles { (giver : View) (answers : List ℕ) (types : Fields) (v : Val)
-        → FoundCanBeCopied (length memory.old) (map kind_of slots.old) giver found.now kept.old
-        answers types v
-        → OnOk result (Gives to table.old.handles table.new.handles (handles_of_values types v)
-        kept.new.numbers) }
-    ensures apart { (giver : View) (answers : List ℕ) (types : Fields) (v : Val)
-        → FoundCanBeCopied (length memory.old) (map kind_of slots.old) giver found.now kept.old
-        answers types v → OnOk result (PartsAreApart kept.old.parts answers) }
+        → OnOk result (IsCopied to (way_of found.now.passed.way) types v kept.old.parts answers
+        memory.old memory.new table.old.handles table.new.handles slots.new kept.new.numbers) }
     ensures err { (giver : View) (answers : List ℕ) (types : Fields) (v : Val)
         → FoundCanBeCopied (length memory.old) (map kind_of slots.old) giver found.now kept.old
         answers types v

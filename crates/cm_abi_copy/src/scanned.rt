@@ -1,28 +1,22 @@
 //! Values that core values denote, with no tree made of them.
 
-ghost use Rattle.std.specs.Prelude.{◌≡◌, ◌^◌, ◌<◌, ◌⊎◌, [], Err, IfErr, IsOk, IsOkUnless, Ok, OnOk};
-ghost use Rattle.std.specs.Prelude.{◌*◌, ◌≤◌, Bool, List, OnErr, length, true};
+ghost use Rattle.std.specs.Prelude.{◌≡◌, ◌^◌, ◌<◌, ◌⊎◌, [], Err, IfErr, IsOk, Ok, OnOk};
+ghost use Rattle.std.specs.Prelude.{◌*◌, ◌≤◌, Bool, List, MatchResult, OnErr, length, true};
 ghost use Rattle.cm_types.specs.Types.{Fields};
 ghost use Rattle.cm_types.specs.Values.{Val};
 ghost use Rattle.cm_layout.specs.Layouts.{layout_of};
-ghost use Rattle.cm_layout.specs.Shapes.{layout_of_fields_at};
 ghost use Rattle.cm_handles.specs.Handles.{IsSoundHandles};
-ghost use Rattle.cm_abi_model.specs.Denotes.{Denotes};
 ghost use Rattle.cm_abi_model.specs.HandleLeaves.{leaves_of};
-ghost use Rattle.cm_abi_model.specs.LiftStops.{LiftStops};
 ghost use Rattle.cm_abi_model.specs.Lifts.{IsGivenBy, LendsBelow};
-ghost use Rattle.cm_abi_model.specs.Receives.{leaves_in};
-ghost use Rattle.cm_abi_model.specs.Requests.{call_parts, tuple_of};
 ghost use Rattle.cm_abi_model.specs.Scanned.{ScansCall, all_kept, nothing_kept, scanned_with};
 ghost use Rattle.cm_abi_model.specs.Scanned.{things_kept};
-ghost use Rattle.cm_abi_model.specs.Taken.{Transferable};
 ghost use Rattle.cm_abi_model.specs.Views.{View, flat_limit};
 ghost use Rattle.cm_abi_model.specs.Ways.{way_of};
 ghost use Rattle.cm_abi_load.specs.Meeting.{AreAsWanted};
-ghost use Rattle.cm_abi_lift.specs.Lifts.{lift_of};
+ghost use Rattle.cm_abi_lift.specs.Lifts.{IsTupleOf, lift_of};
 ghost use Rattle.cm_abi_copy.specs.Kept.{AreAtRest, kept_in};
 ghost use Rattle.cm_abi_copy.specs.MetLeaves.{leaves_found};
-ghost use Rattle.cm_abi_copy.specs.Scans.{IsKept, KeepsNothing, giver_of};
+ghost use Rattle.cm_abi_copy.specs.Scans.{IsFaultOfScan, IsKept, KeepsNothing, giver_of};
 
 use crate::handles_met;
 use crate::kept::{Lists, Scan};
@@ -60,31 +54,14 @@ pub fn scan(
     encodings: Encodings,
     passed: &Passed<'_>,
 ) -> Result<(), AbiFault>
-    requires layout { (types : Fields)
-        × (layout_of passed.now.layout.now ≡ layout_of_fields_at types) }
+    requires layout { (types : Fields) × IsTupleOf types passed.now }
     requires lends { LendsBelow (2 ^ 100) table.old.handles }
     ensures scans { (w : View) (types : Fields)
-        → IsGivenBy w memory.now table.old.handles encodings.source
-        → layout_of passed.now.layout.now ≡ layout_of_fields_at types
-        → OnOk result ((v : Val) × ScansCall w encodings.target (way_of passed.now.way) types
-        passed.now.slots.now v table.new.handles kept.new) }
-    ensures stops { (w : View) (types : Fields)
-        → IsGivenBy w memory.now table.old.handles encodings.source
-        → layout_of passed.now.layout.now ≡ layout_of_fields_at types
-        → IfErr result (λ e. (e ≡ AbiFault.EngineMemory)
-        ⊎ LiftStops w (way_of passed.now.way) types passed.now.slots.now e) }
-    ensures memory { (w : View) (types : Fields) (v : Val)
-        → IsGivenBy w memory.now table.old.handles encodings.source
-        → layout_of passed.now.layout.now ≡ layout_of_fields_at types
-        → Denotes w (way_of passed.now.way) types passed.now.slots.now v
-        → call_parts (way_of passed.now.way) types v ≡ [] → leaves_in (tuple_of types) v ≡ []
-        → IsOk result }
-    ensures only { (w : View) (types : Fields) (v : Val)
-        → IsGivenBy w memory.now table.old.handles encodings.source
-        → layout_of passed.now.layout.now ≡ layout_of_fields_at types
-        → Denotes w (way_of passed.now.way) types passed.now.slots.now v
-        → Transferable w (way_of passed.now.way) types passed.now.slots.now v
-        → IsOkUnless result AbiFault.EngineMemory }
+        → IsGivenBy w memory.now table.old.handles encodings.source → IsTupleOf types passed.now
+        → MatchResult result
+        (λ _. (v : Val) × ScansCall w encodings.target (way_of passed.now.way) types
+        passed.now.slots.now v table.new.handles kept.new)
+        (IsFaultOfScan w types passed.now) }
     ensures value { OnOk result (kept.new.has_value ≡ true) }
     ensures few { OnOk result (all_kept kept.new ≤ 2 * things_kept kept.new) }
     ensures walked { OnOk result ((v : Val)
@@ -151,8 +128,7 @@ fn scan_values(
     encodings: Encodings,
     passed: &Passed<'_>,
 ) -> Result<(), AbiFault>
-    requires layout { (types : Fields)
-        × (layout_of passed.now.layout.now ≡ layout_of_fields_at types) }
+    requires layout { (types : Fields) × IsTupleOf types passed.now }
     requires lends { LendsBelow (2 ^ 100) table.old.handles }
     ensures ok { OnOk result ((v : Val) × (tags : List Bool)
         × (lift_of memory.now table.old.handles encodings.source (way_of passed.now.way)

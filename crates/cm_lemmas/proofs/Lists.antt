@@ -423,3 +423,6 @@ pub got_within : {A : Type 0} (xs : List A) (k : ℕ) → k < length xs → Has 
 got_within [] k lt = absurd (omega (arith, lt))
 got_within (x ∷ xs) zero lt = (x, refl)
 got_within (x ∷ xs) (suc k) lt = got_within xs k (omega (arith, lt))
+
+pub in_head : {A : Type 0} (x : A) (xs : List A) → Contains (x ∷ xs) x
+in_head x xs = (0, omega arith, refl)

@@ -178,28 +178,23 @@ by_limit true limit moves is = inl refl
 by_limit false limit moves is = inr (refl, is)
 
 module _ {G : Type 0} (plays : G → List Exchange → Type 0) (start : RunningSet) (first : Event) (old : List (Option G)) (limit : ℕ) (events : List Event) (s : RunningSet) (seats : List (Option G)) (count : ℕ) (p : Playing plays start first old events s seats count) where
-  ended_at : EndsAt limit (last_of first p.told) (length p.turns) → IsPlay plays start first old limit events s seats
-  ended_at ends = record {
+  ended_at : count ≤ limit → EndsAt limit (last_of first p.told) (length p.turns) → IsPlay plays start first old limit events s seats
+  ended_at within ends = record {
     turns = p.turns;
     told = p.told;
     events_are = p.events_are;
     went = subst (λ (ts : List Turn). Turns start first ts p.told s) (append-nil p.turns) (subst (λ (es : List Event). Turns start first (p.turns ++ []) es s) (append-nil p.told) (p.went [] [] s refl));
+    within = omega (arith, p.counted, within);
     ends = ends;
     seats_play = p.seats_play;
     seats_stay = p.seats_stay;
   }
 
-  pub stops_at : (e : Event) → slice_get events (length events - 1) ≡ Some e → is_last e ≡ true → IsPlay plays start first old limit events s seats
-  stops_at e is last =
-      let there = last_at events first p.told p.events_are in
-      let same : last_of first p.told ≡ e = cc in
-      ended_at (inl (ap is_last same ∙ last))
-
-  pub stops_over : is_last (last_of first p.told) ≡ true → IsPlay plays start first old limit events s seats
-  stops_over last = ended_at (inl last)
+  pub stops_over : count ≤ limit → is_last (last_of first p.told) ≡ true → IsPlay plays start first old limit events s seats
+  stops_over within last = ended_at within (inl last)
 
   pub runs_out : count ≡ limit → IsPlay plays start first old limit events s seats
-  runs_out is = ended_at (by_limit (is_last (last_of first p.told)) limit (length p.turns) (p.counted ∙ is))
+  runs_out is = ended_at (omega (arith, is)) (by_limit (is_last (last_of first p.told)) limit (length p.turns) (p.counted ∙ is))
 
 pub somebody_acts : (stack : List Frame) → 0 < length stack → option_map actor (top_of stack) ≡ None → ⊥
 somebody_acts [] some none = absurd (omega arith)
@@ -224,6 +219,7 @@ module _ {G : Type 0} (plays : G → List Exchange → Type 0) (start : RunningS
     told = p.told;
     events_are = p.events_are;
     went = p.went;
+    within = p.within;
     ends = p.ends;
     seats_play = λ i. subst (λ (x : Option (Option G)). SeatPlays plays (slice_get old i) x (exchanges_of i p.turns)) (sym (emptied i)) (seat_empties plays (f i) (slice_get old i) (slice_get seats i) (exchanges_of i p.turns) (p.seats_play i));
   }

@@ -86,8 +86,8 @@ EndsAt limit last moves = (is_last last ≡ true) ⊎ ((is_last last ≡ false) 
 -- ---- a whole drive
 
 -- From the set after `begin`, with these seats, these events, this new set and these new seats
--- are a drive: some turns, each of the acting instance and each answered by its guest, whose
--- events follow the first one, and which end where a drive ends.
+-- are a drive: some turns, at most as many as the limit says, each of the acting instance and each
+-- answered by its guest, whose events follow the first one, and which end where a drive ends.
 pub record IsDrive {G : Type 0} (plays : G → List Exchange → Type 0) (root limit : ℕ)
     (start : RunningSet) (old_seats : List (Option G)) (events : List Event) (new : RunningSet)
     (seats : List (Option G)) : Type 0 where
@@ -95,6 +95,7 @@ pub record IsDrive {G : Type 0} (plays : G → List Exchange → Type 0) (root l
   pub told : List Event
   pub events_are : events ≡ event.Resume root [] ∷ told
   pub went : Turns start (event.Resume root []) turns told new
+  pub within : length turns ≤ limit
   pub ends : EndsAt limit (last_of (event.Resume root []) told) (length turns)
   pub seats_play : (i : ℕ)
       → SeatPlays plays (slice_get old_seats i) (slice_get seats i) (exchanges_of i turns)
@@ -118,6 +119,7 @@ pub record IsPlay {G : Type 0} (plays : G → List Exchange → Type 0) (start :
   pub told : List Event
   pub events_are : events ≡ first ∷ told
   pub went : Turns start first turns told new
+  pub within : length turns ≤ limit
   pub ends : EndsAt limit (last_of first told) (length turns)
   pub seats_play : (i : ℕ)
       → SeatPlays plays (slice_get old_seats i) (slice_get seats i) (exchanges_of i turns)

@@ -71,9 +71,6 @@ mutual
 
 -- ---- nothing is kept
 
-pub never : false ≡ true → ⊥
-never is = cc
-
 no_call_parts : (b : Bool) (part : Part) (ps : List Part) (more : ℕ) → (if b then 1 else 0) + more ≡ 0 → ps ≡ [] → (if b then part ∷ ps else ps) ≡ []
 no_call_parts true part ps more none is = absurd (omega (arith, none))
 no_call_parts false part ps more none is = is

@@ -27,7 +27,8 @@ use Rattle.cm_machine_model.specs.Passages.{Carries, HasAnswers, asked_for}
 use Rattle.cm_machine_model.specs.Plan.{Link, giver_side, receiver_side, types_of}
 use Rattle.cm_machine_model.specs.State.{Passage, State, table_at, view_of}
 use Rattle.cm_machine_model.specs.Step.{IsHanded, after_handing, given_to, trap_of}
-use Rattle.cm_machine_calls.specs.Handing.{IsCopied, StopsHanding}
+use Rattle.cm_abi_copy.specs.Copies.{IsCopied}
+use Rattle.cm_machine_calls.specs.Handing.{StopsHanding}
 use Rattle.cm_machine_calls.specs.Lifting.{passage_in}
 use Rattle.cm_machine_calls.proofs.Pairs.{at_same}
 

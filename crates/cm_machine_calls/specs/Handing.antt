@@ -10,16 +10,14 @@ use Rattle.cm_layout.specs.Shapes.{layout_of_fields_at}
 use Rattle.cm_abi_lift.specs.declared.passed.Passed.{Passed}
 use Rattle.cm_abi_model.specs.Answered.{IsAllAnswered, Requesting, all_requests}
 use Rattle.cm_abi_model.specs.Answering.{first_fault, regions_of}
-use Rattle.cm_abi_model.specs.Copies.{IsReceivingIn, PartsAreApart, given_by, handles_of_values}
 use Rattle.cm_abi_model.specs.Giving.{Gives, added_count}
 use Rattle.cm_abi_model.specs.Overlap.{AreDisjoint}
-use Rattle.cm_abi_model.specs.Receives.{HandleLeaf, Receives, borrowed_leaf, call_bytes}
-use Rattle.cm_abi_model.specs.Receives.{call_kinds, owned_leaf}
+use Rattle.cm_abi_model.specs.Receives.{HandleLeaf, borrowed_leaf, call_kinds, owned_leaf}
 use Rattle.cm_abi_model.specs.Scanned.{GoesOn, Scanned}
-use Rattle.cm_abi_model.specs.Stores.{Framed}
 use Rattle.cm_abi_model.specs.Views.{View, Way}
 use Rattle.cm_abi_model.specs.Ways.{way_of}
 use Rattle.cm_abi_model.specs.declared.receiver.Receiver.{Receiver}
+use Rattle.cm_abi_copy.specs.Copies.{IsCopied}
 use Rattle.cm_machine_model.specs.declared.event.Trap.{Trap}
 use Rattle.cm_machine_model.specs.declared.event.Trap.TheVariants as trap
 use Rattle.cm_machine_model.specs.Memories.{memory_at}
@@ -53,18 +51,7 @@ CanBeCopied from memory_length passed kinds s =
     (view : View) × (answers : List ℕ) × (types : Fields) × (v : Val)
     × CanCopy view from memory_length passed kinds s answers types v
 
--- A value was copied to its receiver: its memory, its table and the core values pass the value, the
--- memory is changed by the bytes of the value alone, and the table by its handles.
-pub record IsCopied (to : Receiver) (way : Way) (types : Fields) (v : Val) (parts : Requesting)
-    (answers : List ℕ) (before after : List ℕ) (old new : Handles) (slots : List CoreValue)
-    (numbers : List ℕ) : Type 0 where
-  pub apart : PartsAreApart parts answers
-  pub received : (w : View) → IsReceivingIn w parts.target to after new
-      → Receives w way types slots (given_by parts answers types v to old) v
-  pub framed : Framed before after (call_bytes (given_by parts answers types v to old) way types v)
-  pub gives : Gives to old new (handles_of_values types v) numbers
-
--- the same where the receiver's memory is one of some
+-- A value was copied to its receiver, whose memory is one of some.
 pub record IsCopiedIn (to : Receiver) (way : Way) (types : Fields) (v : Val) (parts : Requesting)
     (answers : List ℕ) (before after : List (List ℕ)) (old new : Handles) (slots : List CoreValue)
     (numbers : List ℕ) : Type 0 where

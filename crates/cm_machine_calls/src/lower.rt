@@ -10,7 +10,8 @@ ghost use Rattle.cm_abi_model.specs.Copies.{IsFaultOfCopying, handles_of_values}
 ghost use Rattle.cm_abi_model.specs.Views.{View};
 ghost use Rattle.cm_abi_model.specs.Ways.{way_of};
 ghost use Rattle.cm_machine_model.specs.Memories.{memory_at};
-ghost use Rattle.cm_machine_calls.specs.Handing.{CanBeCopied, CanCopy, IsCopied, IsCopiedIn};
+ghost use Rattle.cm_abi_copy.specs.Copies.{IsCopied};
+ghost use Rattle.cm_machine_calls.specs.Handing.{CanBeCopied, CanCopy, IsCopiedIn};
 ghost use Rattle.cm_machine_calls.specs.Handing.{owner_given};
 ghost use Rattle.cm_abi_model.specs.Giving.{borrowed_count};
 ghost use Rattle.cm_abi_model.specs.HandleLeaves.{leaf_of, leaves_of};

@@ -24,11 +24,10 @@ use Rattle.cm_validate_items.specs.declared.items.InstanceItems.{InstanceItems}
 use Rattle.cm_validate_entries.specs.declared.spaces.ComponentSpaces.{ComponentSpaces}
 use Rattle.std.specs.declared.alloc.Global.{Global}
 use Rattle.std.specs.declared.rc.Rc.{Rc}
-use Rattle.cm_validate_entries.proofs.ImportLaws.{LeastOfBoth, func_fault, func_imported, instance_fault, lesser_some, right_sort, stays}
-
-is_none : {A : Type 0} (o : Option A) → is_some o ≡ false → o ≡ None
-is_none None e = refl
-is_none (Some x) e = absurd cc
+use Rattle.cm_validate_entries.proofs.ImportLaws.{func_fault, func_imported, instance_fault, right_sort, stays}
+use Rattle.cm_validate_model.proofs.SharedLaws.{LeastOfBoth}
+use Rattle.cm_lemmas.proofs.Options.{is_none}
+use Rattle.cm_validate_model.proofs.ReasonsLaws.{lesser_some}
 
 module _ (both : LeastOfBoth) (es : List TypeEntry) (i : ℕ) (name : List ℕ) (old : ComponentSpaces) where
   abbrev import_of_func : Item

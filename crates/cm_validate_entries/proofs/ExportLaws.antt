@@ -26,12 +26,12 @@ use Rattle.cm_validate_entries.specs.declared.entries.InstanceEntry.{InstanceEnt
 use Rattle.cm_validate_entries.specs.declared.spaces.ComponentSpaces.{ComponentSpaces}
 use Rattle.cm_validate_entries.specs.declared.spaces.ExportEntry.{ExportEntry}
 use Rattle.cm_validate_entries.specs.declared.spaces.ExportedEntry.TheVariants as export
-use Rattle.cm_validate_entries.proofs.ImportLaws.{LeastOfBoth, lesser_some, stays}
-use Rattle.cm_validate_entries.proofs.StepLaws.{all_found, all_more, all_same, grown, known_after, known_same, mapped_more, mapped_same, none_more}
-
-is_none : {A : Type 0} (o : Option A) → is_some o ≡ false → o ≡ None
-is_none None e = refl
-is_none (Some x) e = absurd cc
+use Rattle.cm_validate_entries.proofs.ImportLaws.{stays}
+use Rattle.cm_validate_entries.proofs.StepLaws.{all_more, all_same, grown, known_after, known_same, mapped_more, mapped_same, none_more}
+use Rattle.cm_validate_model.proofs.SharedLaws.{LeastOfBoth}
+use Rattle.cm_lemmas.proofs.Lists.{all_found}
+use Rattle.cm_lemmas.proofs.Options.{is_none}
+use Rattle.cm_validate_model.proofs.ReasonsLaws.{lesser_some}
 
 -- what an index that names anything breaks, where only that it names something counts
 bare : {A : Type 0} (xs : List A) (i : ℕ) (o : Option A) → slice_get xs i ≡ o → bare_index_broken xs i ≡ found (λ (d : A). []) o

@@ -1,5 +1,5 @@
 -- Entries among more types stand for what they stood for.
-use Rattle.std.proofs.Common.{◌≡◌, ℕ, ◌+◌, ◌<◌, ◌≤◌, Bool, true, false, ◌&&◌, List, [], ◌∷◌, ◌++◌, length, map, nat_lt, Option, Some, None, refl, sym, ap, ◌∙◌, arith, subst, length-append}
+use Rattle.std.proofs.Common.{◌≡◌, ℕ, ◌+◌, ◌<◌, ◌≤◌, Bool, true, ◌&&◌, List, [], ◌∷◌, ◌++◌, length, map, nat_lt, Option, Some, None, refl, sym, ap, ◌∙◌, arith, subst, length-append}
 use Rattle.std.specs.Prelude.{is_none}
 use Rattle.std.proofs.lemmas.Bool.{ltb-true, lt-ltb}
 use Rattle.std.proofs.lemmas.List.{get_or_append_left}
@@ -44,26 +44,20 @@ use Rattle.cm_validate_entries.specs.declared.entries.MemberEntry.TheVariants as
 use Rattle.cm_validate_entries.specs.declared.spaces.ExportEntry.{ExportEntry}
 use Rattle.cm_validate_entries.specs.declared.spaces.ExportedEntry.{ExportedEntry}
 use Rattle.cm_validate_entries.specs.declared.spaces.ExportedEntry.TheVariants as export
-
-left : (a b : Bool) → (a && b) ≡ true → a ≡ true
-left true b e = refl
-left false b e = e
-
-right : (a b : Bool) → (a && b) ≡ true → b ≡ true
-right true b e = e
-right false b e = absurd cc
+use Rattle.cm_lemmas.proofs.Lists.{all_push}
+use Rattle.cm_lemmas.proofs.Bools.{both_left, both_right}
 
 -- what holds of each element of a list that passes holds of all
 mapped_same : {A B : Type 0} (test : A → Bool) (f g : A → B) → ((x : A) → test x ≡ true → f x ≡ g x) → (xs : List A) → list_all test xs ≡ true → map f xs ≡ map g xs
 mapped_same test f g each [] e = refl
 mapped_same test f g each (x ∷ xs) e =
-    ap (λ y. y ∷ map f xs) (each x (left (test x) (list_all test xs) e))
-    ∙ ap (λ ys. g x ∷ ys) (mapped_same test f g each xs (right (test x) (list_all test xs) e))
+    ap (λ y. y ∷ map f xs) (each x (both_left (test x) (list_all test xs) e))
+    ∙ ap (λ ys. g x ∷ ys) (mapped_same test f g each xs (both_right (test x) (list_all test xs) e))
 
 passes_more : {A : Type 0} (test more : A → Bool) → ((x : A) → test x ≡ true → more x ≡ true) → (xs : List A) → list_all test xs ≡ true → list_all more xs ≡ true
 passes_more test more each [] e = refl
 passes_more test more each (x ∷ xs) e =
-    ap (λ b. b && list_all more xs) (each x (left (test x) (list_all test xs) e)) ∙ passes_more test more each xs (right (test x) (list_all test xs) e)
+    ap (λ b. b && list_all more xs) (each x (both_left (test x) (list_all test xs) e)) ∙ passes_more test more each xs (both_right (test x) (list_all test xs) e)
 
 -- ---- what they stand for
 
@@ -81,7 +75,7 @@ module _ (types more : List Ty) (funcs others : List FuncTy) where
   func_kept p h = ap (replaced_func (moved_by p.by)) (get_or_append_left funcs others _ p.place (ltb-true p.place (length funcs) h))
 
   pub func_def_kept : (f : FuncEntry) → is_func_there (length funcs) f ≡ true → func_def G f ≡ func_def funcs f
-  func_def_kept (func.Lifted core_func p options) h = ap (λ (t : FuncTy). lifted core_func t options.now) (func_kept p (left (is_there (length funcs) p) (is_none p.by) h))
+  func_def_kept (func.Lifted core_func p options) h = ap (λ (t : FuncTy). lifted core_func t options.now) (func_kept p (both_left (is_there (length funcs) p) (is_none p.by) h))
   func_def_kept (func.Imported import number p) h = ap (imported import number) (func_kept p h)
 
   member_kept : (m : MemberEntry) → is_member_there (length types) (length funcs) m ≡ true → member_def U G m ≡ member_def types funcs m
@@ -99,9 +93,9 @@ module _ (types more : List Ty) (funcs others : List FuncTy) where
   item_members_kept import by next [] h = refl
   item_members_kept import by next (x ∷ xs) h =
       ap (λ (d : MemberDef). record { name = x.name; def = d } ∷ item_members U G import by (next + 1) xs)
-      (member_kept (item_member import by next x.desc) (item_there import by next x.desc (left (is_desc_there (length types) (length funcs) x.desc) (are_items_there (length types) (length funcs) xs) h)))
+      (member_kept (item_member import by next x.desc) (item_there import by next x.desc (both_left (is_desc_there (length types) (length funcs) x.desc) (are_items_there (length types) (length funcs) xs) h)))
       ∙ ap (λ (ms : List NamedMember). record { name = x.name; def = member_def types funcs (item_member import by next x.desc) } ∷ ms)
-      (item_members_kept import by (next + 1) xs (right (is_desc_there (length types) (length funcs) x.desc) (are_items_there (length types) (length funcs) xs) h))
+      (item_members_kept import by (next + 1) xs (both_right (is_desc_there (length types) (length funcs) x.desc) (are_items_there (length types) (length funcs) xs) h))
 
   named_kept : (e : Bor (List ℕ) × MemberEntry) → is_member_there (length types) (length funcs) e.1 ≡ true → named_member U G e ≡ named_member types funcs e
   named_kept e h = ap (λ (d : MemberDef). record { name = e.0.now; def = d }) (member_kept e.1 h)
@@ -138,7 +132,7 @@ module _ (types more : List Ty) (funcs others : List FuncTy) where
 
   pub type_def_kept : (e : TypeEntry) → is_entry_there (length types) (length funcs) e ≡ true → def_of U G e ≡ def_of types funcs e
   type_def_kept (entry.Value p) h = ap value (type_kept p h)
-  type_def_kept (entry.Func p) h = ap func_type (func_kept p (left (is_there (length funcs) p) (is_none p.by) h))
+  type_def_kept (entry.Func p) h = ap func_type (func_kept p (both_left (is_there (length funcs) p) (is_none p.by) h))
   type_def_kept (entry.Resource n) h = refl
   type_def_kept (entry.Instance i) h =
       ap (λ (is : List NamedItem). instance_type (record { items = is; first = (instance_type_of i.value).first; fresh = (instance_type_of i.value).fresh })) (items_kept (instance_type_of i.value).items.items h)
@@ -158,8 +152,8 @@ module _ (types more : List Ty) (funcs others : List FuncTy) where
   items_settled : (first : ℕ) (xs : List Item) → are_items_there (length types) (length funcs) xs ≡ true → AreItemsSettled types funcs first xs → AreItemsSettled U G first xs
   items_settled first [] h w = tt
   items_settled first (x ∷ xs) h w = (
-    desc_settled first x.desc (left (is_desc_there (length types) (length funcs) x.desc) (are_items_there (length types) (length funcs) xs) h) w.0,
-    items_settled first xs (right (is_desc_there (length types) (length funcs) x.desc) (are_items_there (length types) (length funcs) xs) h) w.1,
+    desc_settled first x.desc (both_left (is_desc_there (length types) (length funcs) x.desc) (are_items_there (length types) (length funcs) xs) h) w.0,
+    items_settled first xs (both_right (is_desc_there (length types) (length funcs) x.desc) (are_items_there (length types) (length funcs) xs) h) w.1,
   )
 
   entry_settled : (e : TypeEntry) → is_entry_there (length types) (length funcs) e ≡ true → IsEntrySettled types funcs e → IsEntrySettled U G e
@@ -171,8 +165,8 @@ module _ (types more : List Ty) (funcs others : List FuncTy) where
   pub all_settled : (es : List TypeEntry) → list_all (is_entry_there (length types) (length funcs)) es ≡ true → AllByRecursion (IsEntrySettled types funcs) es → AllByRecursion (IsEntrySettled U G) es
   all_settled [] h w = tt
   all_settled (e ∷ es) h w = (
-    entry_settled e (left (is_entry_there (length types) (length funcs) e) (list_all (is_entry_there (length types) (length funcs)) es) h) w.0,
-    all_settled es (right (is_entry_there (length types) (length funcs) e) (list_all (is_entry_there (length types) (length funcs)) es) h) w.1,
+    entry_settled e (both_left (is_entry_there (length types) (length funcs) e) (list_all (is_entry_there (length types) (length funcs)) es) h) w.0,
+    all_settled es (both_right (is_entry_there (length types) (length funcs) e) (list_all (is_entry_there (length types) (length funcs)) es) h) w.1,
   )
 
 -- ---- places
@@ -183,7 +177,7 @@ module _ (t u f g : ℕ) (types : t ≤ u) (funcs : f ≤ g) where
 
   at_place_more : (p : Placed) → is_at_place f p ≡ true → is_at_place g p ≡ true
   at_place_more p h =
-      rw (below_more p.place f g funcs (left (is_there f p) (is_none p.by) h), right (is_there f p) (is_none p.by) h) refl
+      rw (below_more p.place f g funcs (both_left (is_there f p) (is_none p.by) h), both_right (is_there f p) (is_none p.by) h) refl
 
   pub func_there_more : (e : FuncEntry) → is_func_there f e ≡ true → is_func_there g e ≡ true
   func_there_more (func.Lifted core_func p options) h = at_place_more p h
@@ -269,14 +263,10 @@ no_types types funcs es s x e t = record {
   settled = t.settled;
 }
 
-all_settled_push : {A : Type 0} (P : A → Type 0) (xs : List A) (x : A) → AllByRecursion P xs → P x → AllByRecursion P (xs ++ x ∷ [])
-all_settled_push P [] x a p = (p, tt)
-all_settled_push P (y ∷ ys) x a p = (a.0, all_settled_push P ys x a.1 p)
-
 pub one_type : (types : List Ty) (funcs : List FuncTy) (es : List TypeEntry) (e : TypeEntry) (s : Spaces) (x : SpaceItem) → new_types s x ≡ def_of types funcs e ∷ []
     → is_entry_there (length types) (length funcs) e ≡ true → IsEntrySettled types funcs e → AreTypesOf types funcs es s → AreTypesOf types funcs (es ++ e ∷ []) (after_item s x)
 one_type types funcs es e s x added there settled t = record {
   types_are = ap (λ v. s.types ++ v) added ∙ ap (λ v. v ++ def_of types funcs e ∷ []) t.types_are ∙ sym (map-append (def_of types funcs) es (e ∷ []));
   types_there = all_more (is_entry_there (length types) (length funcs)) es (es ++ e ∷ []) e refl t.types_there there;
-  settled = all_settled_push (IsEntrySettled types funcs) es e t.settled settled;
+  settled = all_push (IsEntrySettled types funcs) es e t.settled settled;
 }

@@ -1,8 +1,8 @@
 -- Imports: what they break, and the spaces after them.
-use Rattle.std.proofs.Common.{◌≡◌, ℕ, zero, suc, ◌+◌, true, false, Bool, List, [], ◌∷◌, ◌++◌, length, map, Option, Some, None, refl, sym, ap, ◌∙◌, subst, append_assoc, not}
+use Rattle.std.proofs.Common.{◌≡◌, ℕ, ◌+◌, true, List, [], ◌∷◌, ◌++◌, length, map, Option, Some, None, refl, sym, ap, ◌∙◌, subst, append_assoc, not}
 use Rattle.std.proofs.lemmas.Option.{slice_get-map}
-use Rattle.std.specs.List.{AllByRecursion, slice_get}
-use Rattle.std.specs.Prelude.{option_to_list, is_none, is_some, nat_le, if◌then◌else◌}
+use Rattle.std.specs.List.{slice_get}
+use Rattle.std.specs.Prelude.{option_to_list, is_none, is_some}
 use Rattle.std.specs.Option.{option_map, option_map_or, option_and_then}
 use Rattle.std.specs.declared.alloc.Global.{Global}
 use Rattle.std.specs.declared.rc.Rc.{Rc}
@@ -24,10 +24,9 @@ use Rattle.cm_validate_entries.specs.declared.spaces.ExportEntry.{ExportEntry}
 use Rattle.cm_types_arena.specs.declared.externs.Extern.{Extern}
 use Rattle.cm_types_arena.specs.declared.externs.ExternDesc.TheVariants as extern
 use Rattle.cm_validate_model.specs.declared.fault.ValidReason.{ValidReason}
-use Rattle.cm_validate_model.specs.Definitions.{InstanceTy, TypeDef, NamedMember, brought, imported, sort_of, sorts_of}
+use Rattle.cm_validate_model.specs.Definitions.{InstanceTy, TypeDef, NamedMember, brought, imported, sorts_of}
 use Rattle.cm_validate_model.specs.Items.{Item, import_item}
 use Rattle.cm_validate_model.specs.declared.fault.ValidReason.TheVariants as reason
-use Rattle.cm_validate_model.specs.ReasonWords.{reason_number}
 use Rattle.cm_validate_model.specs.Reasons.{found, index_broken, least, lesser, unless}
 use Rattle.cm_validate_model.specs.Rules.{broken, func_name_broken, instance_name_broken, name_broken, type_index_broken}
 use Rattle.cm_validate_model.specs.Spaces.{Spaces, after_item, after_items, brought_from, empty_spaces, func_ty_in, instance_ty_in, imported_func, imported_instance, members_from, members_imported, moved_named, new_funcs, new_imports, new_instances, new_resources, next_import, next_resource}
@@ -49,14 +48,14 @@ use Rattle.cm_validate_entries.specs.declared.entries.InstanceEntry.TheVariants 
 use Rattle.cm_validate_items.specs.declared.items.InstanceItems.{InstanceItems}
 use Rattle.cm_validate_items.specs.declared.ranges.Resources.{Resources}
 use Rattle.cm_validate_entries.specs.declared.spaces.ComponentSpaces.{ComponentSpaces}
-use Rattle.cm_validate_entries.proofs.MemberLaws.{both_left}
 use Rattle.cm_validate_entries.proofs.MoveLaws.{Laws, all_brought, items_told, members_told}
-use Rattle.cm_validate_entries.proofs.StepLaws.{all_found, all_more, all_same, grown, known_after, known_same, mapped_more, mapped_same, none_more}
+use Rattle.cm_validate_entries.proofs.StepLaws.{all_more, all_same, grown, known_after, known_same, mapped_more, mapped_same, none_more}
+use Rattle.cm_validate_model.proofs.SharedLaws.{LeastOfBoth}
+use Rattle.cm_lemmas.proofs.Lists.{all_found, got_at, map_length}
+use Rattle.cm_lemmas.proofs.Bools.{both_left}
+use Rattle.cm_validate_types.proofs.ScopeLaws.{sorts_told}
 
 -- ---- reasons
-
-abbrev pub LeastOfBoth : Type 0
-LeastOfBoth = (qs rs : List ValidReason) → least (qs ++ rs) ≡ lesser (least qs) (least rs)
 
 abbrev pub AreCounted : Type 0
 AreCounted = (front : List Item) → AreSpacesCounted (after_items empty_spaces front)
@@ -65,24 +64,6 @@ AreCounted = (front : List Item) → AreSpacesCounted (after_items empty_spaces 
 pub stays : (P : Spaces → Type 0) (r : Option ValidReason) (s : Spaces) (x : Item) → is_some r ≡ true → P s → P (after_answer r s x)
 stays P None s x e p = absurd cc
 stays P (Some q) s x e p = p
-
-pub lesser_some : (q : ValidReason) (o : Option ValidReason) → is_some (lesser (Some q) o) ≡ true
-lesser_some q None = refl
-lesser_some q (Some r) = here (nat_le (reason_number q) (reason_number r))
-  where
-    here : (b : Bool) → is_some (if b then Some q else Some r) ≡ true
-    here true = refl
-    here false = refl
-
-sort_told : (types : List Ty) (funcs : List FuncTy) (e : TypeEntry) → sort_of (def_of types funcs e) ≡ entry_sort e
-sort_told types funcs (entry.Value p) = refl
-sort_told types funcs (entry.Func p) = refl
-sort_told types funcs (entry.Resource n) = refl
-sort_told types funcs (entry.Instance i) = refl
-
-sorts_told : (types : List Ty) (funcs : List FuncTy) (es : List TypeEntry) → sorts_of (map (def_of types funcs) es) ≡ map entry_sort es
-sorts_told types funcs [] = refl
-sorts_told types funcs (e ∷ es) = rw (sort_told types funcs e, sorts_told types funcs es) refl
 
 pub sorts_are : (types : List Ty) (funcs : List FuncTy) (es : List TypeEntry) (s : Spaces) → AreTypesOf types funcs es s → sorts_of s.types ≡ map entry_sort es
 sorts_are types funcs es s t = ap sorts_of t.types_are ∙ sorts_told types funcs es
@@ -118,20 +99,8 @@ module _ (both : LeastOfBoth) (types : List Ty) (funcs : List FuncTy) (c : Compo
 pub type_at_index : (types : List Ty) (funcs : List FuncTy) (s : Spaces) (es : List TypeEntry) (i : ℕ) (e : TypeEntry) → AreTypesOf types funcs es s → slice_get es i ≡ Some e → slice_get s.types i ≡ Some (def_of types funcs e)
 type_at_index types funcs s es i e t is = ap (λ (ts : List TypeDef). slice_get ts i) t.types_are ∙ slice_get-map (def_of types funcs) es i ∙ ap (option_map (def_of types funcs)) is
 
-every_at : {A : Type 0} (P : A → Type 0) (xs : List A) (i : ℕ) (x : A) → AllByRecursion P xs → slice_get xs i ≡ Some x → P x
-every_at P [] i x a e = absurd cc
-every_at P (y ∷ ys) zero x a e = subst P (some_is e) a.0
-  where
-    some_is : Some y ≡ Some x → y ≡ x
-    some_is f = cc
-every_at P (y ∷ ys) (suc i) x a e = every_at P ys i x a.1 e
-
-length_mapped : {A B : Type 0} (f : A → B) (xs : List A) → length (map f xs) ≡ length xs
-length_mapped f [] = refl
-length_mapped f (x ∷ xs) = ap suc (length_mapped f xs)
-
 pub imports_before : (types : List Ty) (funcs : List FuncTy) (c : ComponentSpaces) (s : Spaces) → IsComponentOf types funcs c s → next_import s ≡ length c.imports.items
-imports_before types funcs c s r = ap length r.imports_are ∙ length_mapped (extern_of types funcs) c.imports.items
+imports_before types funcs c s r = ap length r.imports_are ∙ map_length (extern_of types funcs) c.imports.items
 
 -- ---- the spaces after an import
 
@@ -222,7 +191,7 @@ module _ (laws : Laws) (counts : AreCounted) (types : List Ty) (funcs : List Fun
   spaces_counted = subst AreSpacesCounted (sym r.reached.1) (counts r.reached.0)
 
   type_counted : IsInstanceCounted (next_resource s) (instance_of types funcs it)
-  type_counted = every_at (IsDefCounted (next_resource s)) s.types i (def_of types funcs (entry.Instance items)) spaces_counted.types (type_at_index types funcs s es i (entry.Instance items) t is)
+  type_counted = got_at (IsDefCounted (next_resource s)) s.types i (def_of types funcs (entry.Instance items)) spaces_counted.types (type_at_index types funcs s es i (entry.Instance items) t is)
 
   pub instance_imported : (ty : Rc InstanceType Global) → ty.value ≡ it → by.first ≡ it.first → by.count ≡ it.fresh → by.next ≡ length (resources_in old.resources)
       → PushesInstance added_instance old mid → resources_in brings ≡ resources_in mid.resources ++ map (brought (length old.imports.items)) (fresh_of it)
@@ -234,7 +203,7 @@ module _ (laws : Laws) (counts : AreCounted) (types : List Ty) (funcs : List Fun
       let at : imported_instance s (desc.Instance i) ≡ Some I = ap (option_and_then instance_ty_in) (type_at_index types funcs s es i (entry.Instance items) t is) in
       let number : next_import s ≡ length old.imports.items = imports_before types funcs old s r in
       let resources_next : by.next ≡ next_resource s = next ∙ sym (ap length r.resources_are) in
-      let settled : AreItemsSettled types funcs it.first it.items.items = every_at (IsEntrySettled types funcs) es i (entry.Instance items) t.settled is in
+      let settled : AreItemsSettled types funcs it.first it.items.items = got_at (IsEntrySettled types funcs) es i (entry.Instance items) t.settled is in
       let now_instances : new.instances.items ≡ old.instances.items ++ added_instance ∷ [] = ap (λ v. v.items) b.instances ∙ a.pushed in
       let now_imports : new.imports.items ≡ old.imports.items ++ added_import ty ∷ [] = b.added ∙ ap (λ v. v.items ++ added_import ty ∷ []) a.imports in
       let instance_is : new_instances s x ≡ members_of types funcs added_instance ∷ [] =

@@ -2,7 +2,7 @@ mod MemberLaws
 mod StepLaws
 mod AliasLaws
 mod MoveLaws
-mod ImportLaws
+pub mod ImportLaws
 mod AnswerLaws
 mod ExportLaws
 mod StayLaws

@@ -25,7 +25,8 @@ use Rattle.cm_validate_entries.specs.Steps.{PushesFunc}
 use Rattle.cm_validate_entries.specs.declared.entries.FuncEntry.TheVariants as func
 use Rattle.cm_validate_entries.specs.declared.spaces.ComponentSpaces.{ComponentSpaces}
 use Rattle.cm_validate_entries.proofs.ImportLaws.{sorts_are, type_at_index}
-use Rattle.cm_validate_entries.proofs.StepLaws.{all_found, func_pushed}
+use Rattle.cm_validate_entries.proofs.StepLaws.{func_pushed}
+use Rattle.cm_lemmas.proofs.Lists.{all_found}
 
 -- ---- the type of a function under an index
 

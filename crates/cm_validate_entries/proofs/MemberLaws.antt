@@ -1,6 +1,5 @@
 -- What an instance has under a name.
-use Rattle.std.proofs.Common.{◌≡◌, ℕ, ◌+◌, Bool, true, false, ◌&&◌, cond, List, [], ◌∷◌, map, Option, Some, None, refl, sym, ◌∙◌, IfSome, subst}
-use Rattle.std.proofs.lemmas.Slice.Eq.{bytes_eq-Decides}
+use Rattle.std.proofs.Common.{◌≡◌, ℕ, ◌+◌, Bool, true, false, cond, List, [], ◌∷◌, map, Some, refl, IfSome}
 use Rattle.std.specs.Borrow.{Bor}
 use Rattle.std.specs.List.{list_all}
 use Rattle.std.specs.Map.{lookup}
@@ -16,14 +15,8 @@ use Rattle.cm_validate_model.specs.Spaces.{member_named}
 use Rattle.cm_validate_items.specs.Items.{item_named}
 use Rattle.cm_validate_entries.specs.Entries.{item_member, item_members, member_def, named_member, is_member_there}
 use Rattle.cm_validate_entries.specs.declared.entries.MemberEntry.{MemberEntry}
-
-pub both_left : (a b : Bool) → (a && b) ≡ true → a ≡ true
-both_left true b e = refl
-both_left false b e = e
-
-pub both_right : (a b : Bool) → (a && b) ≡ true → b ≡ true
-both_right true b e = e
-both_right false b e = absurd cc
+use Rattle.cm_lemmas.proofs.Bools.{both_left, both_right}
+use Rattle.cm_lemmas.proofs.Lists.{texts_either_way}
 
 -- ---- of an imported instance
 
@@ -54,26 +47,7 @@ item_there types funcs import by next (x ∷ xs) name e = here (item_there types
     here rest true = desc_there types funcs import by next x.desc (both_left (is_desc_there types funcs x.desc) (are_items_there types funcs xs) e)
     here rest false = rest
 
-pub some_has : {A : Type 0} (P : A → Type 0) (o : Option A) (x : A) → o ≡ Some x → IfSome o P → P x
-some_has P None x e p = absurd cc
-some_has P (Some y) x e p = subst P (some_is e) p
-  where
-    some_is : Some y ≡ Some x → y ≡ x
-    some_is f = cc
-
 -- ---- of definitions under names
-
-same_text : (x y : List ℕ) → bytes_eq x y ≡ true → bytes_eq y x ≡ true
-same_text x y e = (bytes_eq-Decides y x).1 (sym ((bytes_eq-Decides x y).0 e))
-
-texts_either_way : (x y : List ℕ) → bytes_eq x y ≡ bytes_eq y x
-texts_either_way x y = by (bytes_eq x y) (bytes_eq y x) refl refl
-  where
-    by : (a b : Bool) → bytes_eq x y ≡ a → bytes_eq y x ≡ b → a ≡ b
-    by true true e f = refl
-    by false false e f = refl
-    by true false e f = sym (same_text x y e) ∙ f
-    by false true e f = sym e ∙ same_text y x f
 
 pub looked_up : (types : List Ty) (funcs : List FuncTy) (name : List ℕ) (es : List (Bor (List ℕ) × MemberEntry))
     → option_map (member_def types funcs) (lookup (λ k. bytes_eq name k.now) es) ≡ member_named (map (named_member types funcs) es) name

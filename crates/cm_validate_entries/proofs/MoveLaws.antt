@@ -1,7 +1,7 @@
 -- An instance that is imported: its items, with the resources that they bring counted from the
 -- component's next number on.
-use Rattle.std.proofs.Common.{◌≡◌, inl, inr, ℕ, ◌+◌, ◌<◌, ◌≤◌, true, false, List, [], ◌∷◌, ◌++◌, map, Option, Some, None, refl, sym, ap, ◌∙◌, IfSome, nat_lt}
-use Rattle.std.proofs.lemmas.Bool.{cases_lt, lt-ltb, le-ltb, lt-leb}
+use Rattle.std.proofs.Common.{◌≡◌, inl, inr, ℕ, ◌+◌, ◌<◌, List, [], ◌∷◌, ◌++◌, map, Option, Some, None, refl, sym, ap, ◌∙◌, IfSome}
+use Rattle.std.proofs.lemmas.Bool.{cases_lt, lt-leb}
 use Rattle.std.proofs.lemmas.List.{map-append}
 use Rattle.std.specs.Option.{option_map}
 use Rattle.cm_types.specs.Signatures.{ItemTy, NamedItem, func_item, equal_type, equal_resource, fresh_resource}
@@ -23,6 +23,8 @@ use Rattle.cm_validate_model.specs.CountedSpaces.{AreItemsCounted}
 use Rattle.cm_validate_items.specs.Items.{fresh_at, fresh_from}
 use Rattle.cm_validate_types.specs.Settled.{AreItemsSettled, IsDescSettled, WhereMoved}
 use Rattle.cm_validate_entries.specs.Entries.{item_member, item_members, member_def, moved_place}
+use Rattle.cm_lemmas.proofs.Numbers.{lt_true, lt_false}
+use Rattle.cm_types.proofs.TypesLaws.{make_func}
 
 -- ---- laws of the crates below
 
@@ -57,9 +59,6 @@ result_stays : TypesStay → (i : InstanceTy) (next : ℕ) (o : Option Ty) → I
 result_stays stay i next None c = refl
 result_stays stay i next (Some t) c = ap Some (stay i next t c)
 
-abbrev make_func : Fields → Option Ty → FuncTy
-make_func ps r = record { params = ps; result = r }
-
 func_stays : TypesStay → (i : InstanceTy) (next : ℕ) (f : FuncTy) → IsFuncCounted i.first f → moved_func i next f ≡ f
 func_stays stay i next f c =
     ap (λ ps. make_func ps (option_map (moved_type i next) f.result)) (same_fields (moved_fields i next f.params) f.params (stay i next (fields tuple_type f.params) c.0))
@@ -67,23 +66,17 @@ func_stays stay i next f c =
 
 -- ---- numbers
 
-below : (a b : ℕ) → a < b → nat_lt a b ≡ true
-below a b h = lt-ltb a b h
-
-not_below : (a b : ℕ) → b ≤ a → nat_lt a b ≡ false
-not_below a b h = le-ltb a b h
-
 module _ (i : InstanceTy) (next n : ℕ) (lt : n < i.first + i.fresh) where
   pub number_told : moved i next n ≡ (moved_range i.first i.fresh next (numbered n)).number
   number_told = elim (cases_lt n i.first) [
-    | inl own ↦ rw (below n i.first own) refl
-    | inr brings ↦ rw (not_below n i.first brings, lt-leb (i.first + i.fresh) n lt) refl
+    | inl own ↦ rw (lt_true n i.first own) refl
+    | inr brings ↦ rw (lt_false n i.first brings, lt-leb (i.first + i.fresh) n lt) refl
   ]
 
   pub id_told : moved_id i next (numbered n) ≡ moved_range i.first i.fresh next (numbered n)
   id_told = elim (cases_lt n i.first) [
-    | inl own ↦ rw (below n i.first own) refl
-    | inr brings ↦ rw (not_below n i.first brings, lt-leb (i.first + i.fresh) n lt) refl
+    | inl own ↦ rw (lt_true n i.first own) refl
+    | inr brings ↦ rw (lt_false n i.first brings, lt-leb (i.first + i.fresh) n lt) refl
   ]
 
 -- ---- types and functions at places

@@ -1,5 +1,5 @@
 -- The index spaces after an item.
-use Rattle.std.proofs.Common.{◌≡◌, ℕ, zero, suc, Bool, true, false, ◌&&◌, ◌||◌, List, [], ◌∷◌, ◌++◌, length, map, Option, Some, None, refl, sym, ap, ◌∙◌, Result, Ok, Err, OnErr, OnOk, IfSome}
+use Rattle.std.proofs.Common.{◌≡◌, ℕ, Bool, true, false, ◌||◌, List, [], ◌∷◌, ◌++◌, length, map, Option, Some, None, refl, sym, ap, ◌∙◌, Result, Ok, Err, OnErr, OnOk, IfSome}
 use Rattle.std.proofs.lemmas.List.{append-nil, map-append}
 use Rattle.std.specs.List.{list_all, list_any, slice_get}
 use Rattle.cm_types.specs.Names.{is_same_name}
@@ -19,6 +19,8 @@ use Rattle.cm_validate_entries.specs.ComponentSpaces.{IsComponentOf, IsReached, 
 use Rattle.cm_validate_entries.specs.Steps.{PushesFunc}
 use Rattle.cm_validate_entries.specs.declared.entries.FuncEntry.{FuncEntry}
 use Rattle.cm_validate_entries.specs.declared.spaces.ComponentSpaces.{ComponentSpaces}
+use Rattle.cm_lemmas.proofs.Lists.{all_found, all_pushed}
+use Rattle.cm_lemmas.proofs.Bools.{or_false_turned}
 
 -- ---- lists with one more
 
@@ -31,35 +33,11 @@ mapped_same f old new e = ap (map f) e ∙ sym (append-nil (map f old))
 pub none_more : {A : Type 0} (old new : List A) → new ≡ old → new ≡ old ++ []
 none_more old new e = e ∙ sym (append-nil old)
 
-all_pushed : {A : Type 0} (test : A → Bool) (xs : List A) (x : A) → list_all test xs ≡ true → test x ≡ true → list_all test (xs ++ x ∷ []) ≡ true
-all_pushed test [] x e f = ap (λ b. b && true) f
-all_pushed test (y ∷ ys) x e f = here (test y) (λ g. all_pushed test ys x g f) e
-  where
-    here : (b : Bool) → (list_all test ys ≡ true → list_all test (ys ++ x ∷ []) ≡ true) → (b && list_all test ys) ≡ true → (b && list_all test (ys ++ x ∷ [])) ≡ true
-    here true rest g = rest g
-    here false rest g = absurd cc
-
 pub all_more : {A : Type 0} (test : A → Bool) (old new : List A) (x : A) → new ≡ old ++ x ∷ [] → list_all test old ≡ true → test x ≡ true → list_all test new ≡ true
 all_more test old new x e f g = ap (list_all test) e ∙ all_pushed test old x f g
 
 pub all_same : {A : Type 0} (test : A → Bool) (old new : List A) → new ≡ old → list_all test old ≡ true → list_all test new ≡ true
 all_same test old new e f = ap (list_all test) e ∙ f
-
-pub all_found : {A : Type 0} (test : A → Bool) (xs : List A) (i : ℕ) (x : A) → list_all test xs ≡ true → slice_get xs i ≡ Some x → test x ≡ true
-all_found test [] i x e f = absurd cc
-all_found test (y ∷ ys) zero x e f = ap test (sym (some_is f)) ∙ left (test y) e
-  where
-    some_is : Some y ≡ Some x → y ≡ x
-    some_is g = cc
-
-    left : (b : Bool) → (b && list_all test ys) ≡ true → b ≡ true
-    left true g = refl
-    left false g = g
-all_found test (y ∷ ys) (suc i) x e f = all_found test ys i x (right (test y) e) f
-  where
-    right : (b : Bool) → (b && list_all test ys) ≡ true → list_all test ys ≡ true
-    right true g = g
-    right false g = absurd cc
 
 -- what passes for all of a list passes for the element of an index
 pub all_at : {A : Type 0} (test : A → Bool) (xs : List A) (i : ℕ) (o : Option A) → list_all test xs ≡ true → slice_get xs i ≡ o → IfSome o (λ x. test x ≡ true)
@@ -67,10 +45,6 @@ all_at test xs i None e f = tt
 all_at test xs i (Some x) e f = all_found test xs i x e f
 
 -- ---- names
-
-or_false : (b : Bool) → b ≡ (b || false)
-or_false true = refl
-or_false false = refl
 
 any_joined : {A : Type 0} (test : A → Bool) (xs ys : List A) → (list_any test xs || list_any test ys) ≡ list_any test (xs ++ ys)
 any_joined test [] ys = refl
@@ -83,7 +57,7 @@ any_joined test (x ∷ xs) ys = here (test x) (any_joined test xs ys)
 -- a set that stays as it is, where there is no name to add
 pub known_same : (old new : NameSet) (names : List (List ℕ)) → new ≡ old → names ≡ [] → KnowsMore old new names
 known_same old new names same none n =
-    ap (λ s. is_known s n) same ∙ or_false (is_known old n) ∙ ap (λ ns. is_known old n || list_any (is_same_name n) ns) (sym none)
+    ap (λ s. is_known s n) same ∙ or_false_turned (is_known old n) ∙ ap (λ ns. is_known old n || list_any (is_same_name n) ns) (sym none)
 
 -- a set that got one name
 pub known_after : (old mid new : NameSet) (name : List ℕ) (names : List (List ℕ)) → mid ≡ old → KnowsMore mid new (name ∷ []) → names ≡ name ∷ [] → KnowsMore old new names

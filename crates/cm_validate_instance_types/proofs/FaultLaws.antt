@@ -4,6 +4,7 @@ use Rattle.std.specs.List.{flat_map, list_all}
 use Rattle.std.specs.Option.{option_map_or}
 use Rattle.std.specs.Str.{bytes_eq}
 use Rattle.std.proofs.lemmas.List.Folds.{list_all-append}
+use Rattle.std.proofs.lemmas.Bool.{and_from}
 use Rattle.cm_types.specs.ExternNames.{NameTree, plain, method, static, constructor, interface, form_of}
 use Rattle.cm_types.specs.Signatures.{ItemTy, NamedItem, func_item, equal_type, equal_resource, fresh_resource}
 use Rattle.cm_types.specs.Types.{Ty, Fields, FuncTy, bool, signed, unsigned, char, string, list, fixed_list, fields, cases, flags, own, borrow, no_fields, field}
@@ -19,6 +20,7 @@ use Rattle.cm_validate_sketches.specs.Sketches.{own_result, resource_borrowed, r
 use Rattle.cm_validate_instance_types.specs.Names.{are_all_well_named, is_named_well, is_of, item_name_faults, may_name, may_name_func, resource_under}
 use Rattle.cm_validate_instance_types.specs.Sketches.{SketchedItem, named_sketch, resource_sketched, sketch_item, sketch_named}
 use Rattle.cm_validate_instance_types.specs.declared.sketches.NamedSketch.{NamedSketch}
+use Rattle.cm_validate_model.proofs.SharedLaws.{LeastOfBoth}
 
 -- ---- names, by sketches
 
@@ -119,9 +121,6 @@ same_names : (xs : List NamedItem) → map (λ i. i.name) xs ≡ map (λ i. i.0)
 same_names [] = refl
 same_names (x ∷ xs) = ap (λ ns. x.name ∷ ns) (same_names xs)
 
-abbrev pub LeastOfBoth : Type 0
-LeastOfBoth = (qs rs : List ValidReason) → least (qs ++ rs) ≡ lesser (least qs) (least rs)
-
 pub names_told : LeastOfBoth → (items : List NamedItem) → least (item_names_broken items) ≡ least (item_name_faults (map named_sketch items))
 names_told both items =
     let twice = λ (ns : List (List ℕ)). unless (are_distinct_names ns) reason.DuplicateName in
@@ -133,9 +132,6 @@ names_told both items =
 
 -- ---- their numbers
 
-and_true : (a b : Bool) → a ≡ true → b ≡ true → (a && b) ≡ true
-and_true a b p q = rw (p, q) refl
-
 before_unless : (b : Bool) (r : ValidReason) → is_before_limits r ≡ true → list_all is_before_limits (unless b r) ≡ true
 before_unless true r h = refl
 before_unless false r h = rw h refl
@@ -144,12 +140,12 @@ before_each : (f : NamedItem → Bool) (xs : List NamedItem) → list_all is_bef
 before_each f [] = refl
 before_each f (x ∷ xs) =
     list_all-append is_before_limits (unless (f x) reason.BadAnnotatedName) (flat_map (λ i. unless (f i) reason.BadAnnotatedName) xs)
-    ∙ and_true _ _ (before_unless (f x) reason.BadAnnotatedName refl) (before_each f xs)
+    ∙ and_from _ _ (before_unless (f x) reason.BadAnnotatedName refl) (before_each f xs)
 
 pub names_before : (items : List NamedItem) → list_all is_before_limits (item_names_broken items) ≡ true
 names_before items =
     list_all-append is_before_limits (unless (are_distinct_names (map (λ i. i.name) items)) reason.DuplicateName) (flat_map (λ i. unless (is_well_named items i) reason.BadAnnotatedName) items)
-    ∙ and_true _ _ (before_unless (are_distinct_names (map (λ i. i.name) items)) reason.DuplicateName refl) (before_each (is_well_named items) items)
+    ∙ and_from _ _ (before_unless (are_distinct_names (map (λ i. i.name) items)) reason.DuplicateName refl) (before_each (is_well_named items) items)
 
 -- the names of items, as the code has them
 pub code_names : (xs : List NamedSketch) → map (λ i. i.0) (map sketch_named xs) ≡ map (λ i. i.name) xs

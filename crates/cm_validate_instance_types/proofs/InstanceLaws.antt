@@ -12,10 +12,9 @@ use Rattle.cm_validate_instance_types.specs.Names.{item_name_faults}
 use Rattle.cm_validate_instance_types.specs.Sketches.{named_sketch}
 use Rattle.cm_validate_sketches.specs.Faults.{besides_limits, or_too_large}
 use Rattle.cm_validate_instance_types.specs.SketchScopes.{SketchScope, after_all_sketched, declarations_faults, sketch_scope, sketches_before}
-use Rattle.cm_validate_instance_types.proofs.ScopeLaws.{are_before, before_both, besides_both, Others}
-
-abbrev pub LeastOfBoth : Type 0
-LeastOfBoth = (qs rs : List ValidReason) → least (qs ++ rs) ≡ lesser (least qs) (least rs)
+use Rattle.cm_validate_instance_types.proofs.ScopeLaws.{Others}
+use Rattle.cm_validate_model.proofs.SharedLaws.{LeastOfBoth}
+use Rattle.cm_validate_sketches.proofs.FaultLaws.{are_before, before_both, besides_both}
 
 abbrev pub NamesTold : Type 0
 NamesTold = (items : List NamedItem) → least (item_names_broken items) ≡ least (item_name_faults (map named_sketch items))

@@ -1,34 +1,12 @@
 -- Declarations are read one after another, by sketches.
-use Rattle.std.proofs.Common.{◌≡◌, ℕ, ◌+◌, ◌<◌, List, [], ◌∷◌, ◌++◌, length, get_or, map, drop, Option, Some, None, Result, Ok, IfOk, refl, sym, ap, subst, ◌∙◌, add-one, drop-cons, append_assoc}
+use Rattle.std.proofs.Common.{◌≡◌, ℕ, ◌+◌, ◌<◌, List, ◌∷◌, length, get_or, map, drop, Option, Result, Ok, IfOk, refl, sym, ap, subst, ◌∙◌, add-one, drop-cons}
 use Rattle.cm_types.specs.DefTypes.{DeclarationTree}
 use Rattle.cm_validate_model.specs.declared.fault.ValidReason.{ValidReason}
 use Rattle.cm_validate_model.specs.Definitions.{TypeDef}
 use Rattle.cm_validate_model.specs.Reasons.{least, lesser}
 use Rattle.cm_validate_instance_types.specs.SketchScopes.{SketchScope, after_all_sketched, after_sketched, declaration_faults, declarations_faults}
-use Rattle.cm_validate_instance_types.proofs.InstanceLaws.{LeastOfBoth}
-
-abbrev listed : Option ValidReason → List ValidReason
-listed None = []
-listed (Some r) = r ∷ []
-
-least_listed : (p : Option ValidReason) → least (listed p) ≡ p
-least_listed None = refl
-least_listed (Some r) = refl
-
-lesser_assoc : LeastOfBoth → (p q r : Option ValidReason) → lesser p (lesser q r) ≡ lesser (lesser p q) r
-lesser_assoc both p q r =
-    let a = least_listed p in
-    let b = least_listed q in
-    let c = least_listed r in
-    let right = both (listed p) (listed q ++ listed r) ∙ ap (lesser (least (listed p))) (both (listed q) (listed r)) in
-    let left = both (listed p ++ listed q) (listed r) ∙ ap (λ v. lesser v (least (listed r))) (both (listed p) (listed q)) in
-    let same : least (listed p ++ (listed q ++ listed r)) ≡ least ((listed p ++ listed q) ++ listed r) = ap least (sym (append_assoc (listed p) (listed q) (listed r))) in
-    let whole : lesser (least (listed p)) (lesser (least (listed q)) (least (listed r))) ≡ lesser (lesser (least (listed p)) (least (listed q))) (least (listed r)) = sym right ∙ same ∙ left in
-    rw (a, b, c) at whole
-
-pub lesser_none : (p : Option ValidReason) → lesser p None ≡ p
-lesser_none None = refl
-lesser_none (Some r) = refl
+use Rattle.cm_validate_model.proofs.SharedLaws.{LeastOfBoth}
+use Rattle.cm_validate_model.proofs.ReasonsLaws.{lesser_assoc}
 
 module _ {A : Type 0} (tree : A → DeclarationTree) (around : List TypeDef) (xs : List A) (i : ℕ) (x : A) (lt : i < length xs) (is : x ≡ get_or xs i x) where
   split : map tree (drop i xs) ≡ tree x ∷ map tree (drop (i + 1) xs)

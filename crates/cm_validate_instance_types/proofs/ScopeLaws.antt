@@ -1,9 +1,6 @@
 -- What declarations lead to and break besides the limits, by sketches.
-use Rattle.std.proofs.Common.{◌≡◌, ℕ, zero, suc, ◌+◌, Bool, true, false, ◌&&◌, not, List, [], ◌∷◌, ◌++◌, map, Option, Some, None, refl, sym, ap, ◌∙◌, slice_get, option_to_list, unwrap_or}
-use Rattle.std.specs.List.{list_all}
+use Rattle.std.proofs.Common.{◌≡◌, ℕ, zero, suc, ◌+◌, Bool, true, List, [], ◌∷◌, ◌++◌, map, Option, Some, None, refl, sym, ap, ◌∙◌, slice_get, option_to_list, unwrap_or}
 use Rattle.std.specs.Option.{option_map, option_and_then}
-use Rattle.std.proofs.lemmas.List.Elements.{filter-append}
-use Rattle.std.proofs.lemmas.List.Folds.{list_all-append}
 use Rattle.std.proofs.lemmas.Option.{slice_get-map}
 use Rattle.cm_types.specs.DefTypes.{DeclarationTree, DefValTypeTree, FuncTypeTree, declared_func, declared_value, export_decl, outer_type_decl, type_decl}
 use Rattle.cm_types.specs.declared.def_types.ExportDesc.{ExportDesc}
@@ -22,14 +19,12 @@ use Rattle.cm_validate_model.specs.declared.sorts.TypeSort.TheVariants as sort
 use Rattle.cm_validate_instance_types.specs.Sketches.{named_sketch, sketch_item}
 use Rattle.cm_validate_instance_types.specs.declared.sketches.ItemSketch.{ItemSketch}
 use Rattle.cm_validate_sketches.specs.Definitions.{func_def_sketch, value_def_sketch}
-use Rattle.cm_validate_sketches.specs.Faults.{besides_limits, func_def_faults, is_before_limits, is_too_large, value_def_faults}
+use Rattle.cm_validate_sketches.specs.Faults.{besides_limits, func_def_faults, value_def_faults}
 use Rattle.cm_validate_sketches.specs.Sketches.{sketch_of, sketch_sort}
 use Rattle.cm_validate_sketches.specs.declared.sketches.Sketch.{Sketch}
 use Rattle.cm_validate_sketches.specs.declared.sketches.Sketch.TheVariants as sketch
 use Rattle.cm_validate_instance_types.specs.SketchScopes.{SketchScope, after_all_sketched, after_sketched, declaration_faults, declarations_faults, func_item_in, outer_sketched, sketch_export, sketch_item_more, sketch_more, sketch_scope, type_item_in}
-
-abbrev pub are_before : List ValidReason → Bool
-are_before rs = list_all is_before_limits rs
+use Rattle.cm_validate_sketches.proofs.FaultLaws.{are_before, before_both, before_unless, besides_both}
 
 -- ---- lists
 
@@ -154,10 +149,6 @@ module _ (values : ValueSketched) (funcs : FuncSketched) where
 
 -- ---- what they break
 
-before_unless : (b : Bool) (r : ValidReason) → is_before_limits r ≡ true → are_before (unless b r) ≡ true
-before_unless true r h = refl
-before_unless false r h = rw h refl
-
 before_found : {A : Type 0} (test : A → Bool) (o : Option A) → are_before (found (λ t. unless (test t) reason.WrongSort) o) ≡ true
 before_found test None = refl
 before_found test (Some t) = before_unless (test t) reason.WrongSort refl
@@ -174,15 +165,6 @@ alias_told (Some t) = refl
 before_alias : (o : Option TypeDef) → are_before (besides_limits (found (λ t. []) o)) ≡ true
 before_alias None = refl
 before_alias (Some t) = refl
-
-and_true : (a b : Bool) → a ≡ true → b ≡ true → (a && b) ≡ true
-and_true a b p q = rw (p, q) refl
-
-pub before_both : (xs ys : List ValidReason) → are_before xs ≡ true → are_before ys ≡ true → are_before (xs ++ ys) ≡ true
-before_both xs ys p q = list_all-append is_before_limits xs ys ∙ and_true (are_before xs) (are_before ys) p q
-
-pub besides_both : (xs ys : List ValidReason) → besides_limits (xs ++ ys) ≡ besides_limits xs ++ besides_limits ys
-besides_both xs ys = filter-append (λ r. not (is_too_large r)) xs ys
 
 module _ (values : ValueSketched) (funcs : FuncSketched) (sorts : Sorts) (value_faults : ValueFaults) (func_faults : FuncFaults) (others : Others) where
   fault_told : (s : Scope) (d : DeclarationTree) → besides_limits (declaration_broken s d) ≡ declaration_faults s.around (sketch_scope s) d

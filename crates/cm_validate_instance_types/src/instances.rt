@@ -33,7 +33,7 @@ use std::mem;
 use std::rc::Rc;
 
 /// Adds the type of an instance, with its items by name.
-#[tactic(auto, using(crate::proofs::GrowLaws::unchanged))]
+#[tactic(auto, using(cm_validate_types::proofs::GrowLaws::unchanged))]
 fn add_instance(
     component: &mut TypeScope,
     alloc: Global,
@@ -143,7 +143,7 @@ fn define_within(
 /// each place of the arena stands for what it stood for. And what an outer alias brings into the
 /// type of an instance names no resource of that instance: it stands for a type of the component,
 /// whose resources have numbers before `next` (Explainer.md, "Alias Definitions").
-#[tactic(auto, using(crate::proofs::GrowLaws::same))]
+#[tactic(auto, using(cm_validate_types::proofs::GrowLaws::same))]
 pub fn define_instance(
     scope: &mut TypeScope,
     alloc: Global,

@@ -1,5 +1,4 @@
 mod TextLaws
-mod ReasonLaws
 mod SketchLaws
 mod MemberLaws
 mod NameLaws

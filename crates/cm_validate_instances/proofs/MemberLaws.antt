@@ -1,7 +1,7 @@
 -- What an inline export comes to.
-use Rattle.std.proofs.Common.{◌≡◌, ℕ, true, List, [], ◌∷◌, length, map, Option, Some, None, refl, sym, ap, ◌∙◌, zero, suc, Bool, false, ◌&&◌}
+use Rattle.std.proofs.Common.{◌≡◌, ℕ, true, List, [], ◌∷◌, length, map, Option, Some, None, refl, sym, ap, ◌∙◌}
 use Rattle.std.proofs.lemmas.Option.{slice_get-map}
-use Rattle.std.specs.List.{list_all, slice_get}
+use Rattle.std.specs.List.{slice_get}
 use Rattle.std.specs.Prelude.{option_to_list}
 use Rattle.std.specs.Option.{option_map}
 use Rattle.cm_types.specs.Types.{Ty, FuncTy}
@@ -26,22 +26,7 @@ use Rattle.cm_validate_entries.specs.declared.entries.MemberEntry.{MemberEntry}
 use Rattle.cm_validate_entries.specs.declared.entries.MemberEntry.TheVariants as member
 use Rattle.cm_validate_entries.specs.declared.spaces.ComponentSpaces.{ComponentSpaces}
 use Rattle.cm_validate_instances.specs.Members.{IsAnswered, IsBroken, IsFine, Stand, export_sketches, sketch_member, type_answer}
-
-all_found : {A : Type 0} (test : A → Bool) (xs : List A) (i : ℕ) (x : A) → list_all test xs ≡ true → slice_get xs i ≡ Some x → test x ≡ true
-all_found test [] i x e f = absurd cc
-all_found test (y ∷ ys) zero x e f = ap test (sym (some_is f)) ∙ left (test y) e
-  where
-    some_is : Some y ≡ Some x → y ≡ x
-    some_is g = cc
-
-    left : (b : Bool) → (b && list_all test ys) ≡ true → b ≡ true
-    left true g = refl
-    left false g = g
-all_found test (y ∷ ys) (suc i) x e f = all_found test ys i x (right (test y) e) f
-  where
-    right : (b : Bool) → (b && list_all test ys) ≡ true → list_all test ys ≡ true
-    right true g = g
-    right false g = absurd cc
+use Rattle.cm_lemmas.proofs.Lists.{all_found}
 
 module _ (types : List Ty) (funcs : List FuncTy) (c : ComponentSpaces) (s : Spaces) (es : List TypeEntry) (t : Stand types funcs c es s) (e : InlineExport) where
   -- the items, by what it names

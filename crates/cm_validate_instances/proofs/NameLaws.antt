@@ -6,7 +6,7 @@ use Rattle.std.proofs.lemmas.Slice.Eq.{bytes_eq-Decides}
 use Rattle.std.specs.List.{flat_map, list_any, slice_get}
 use Rattle.std.specs.Option.{option_map}
 use Rattle.std.specs.Char.{to_ascii_lowercase}
-use Rattle.std.specs.Prelude.{is_some, option_to_list, nat_le, if◌then◌else◌}
+use Rattle.std.specs.Prelude.{option_to_list}
 use Rattle.std.specs.Str.{bytes_eq}
 use Rattle.cm_types.specs.Names.{is_same_name}
 use Rattle.cm_types.specs.Signatures.{NamedItem}
@@ -15,7 +15,6 @@ use Rattle.cm_binary_model.specs.declared.instances.InstanceExportSort.{Instance
 use Rattle.cm_binary_model.specs.declared.instances.InstanceExportSort.TheVariants as member_sort
 use Rattle.cm_validate_model.specs.declared.fault.ValidReason.{ValidReason}
 use Rattle.cm_validate_model.specs.declared.fault.ValidReason.TheVariants as reason
-use Rattle.cm_validate_model.specs.ReasonWords.{reason_number}
 use Rattle.cm_validate_model.specs.Declarations.{with_item}
 use Rattle.cm_validate_model.specs.Definitions.{FuncDef, NamedMember, TypeDef, faulty, func_member, func_type, instance_type, resource, sort_of, type_member, value}
 use Rattle.cm_validate_model.specs.ItemNames.{is_well_named, item_names_broken}
@@ -29,7 +28,9 @@ use Rattle.cm_validate_model.specs.declared.sorts.TypeSort.{TypeSort}
 use Rattle.cm_validate_instance_types.specs.Names.{item_name_faults}
 use Rattle.cm_validate_instance_types.specs.Sketches.{SketchedItem, named_sketch}
 use Rattle.cm_validate_instances.specs.Members.{export_sketches}
-use Rattle.cm_validate_instances.proofs.ReasonLaws.{LeastOfBoth}
+use Rattle.cm_validate_model.proofs.SharedLaws.{LeastOfBoth}
+use Rattle.cm_lemmas.proofs.Lists.{nil_rest, nil_front}
+use Rattle.cm_validate_model.proofs.ReasonsLaws.{none_broken, kept}
 
 -- ---- items of members
 
@@ -61,36 +62,12 @@ instance_fault both names s es a b sketches e f g =
     ∙ ap (lesser (least (flat_map (member_broken s) es))) (f ∙ ap (λ v. least (item_name_faults v)) (g ∙ sketches_joined s es) ∙ sym (names (all_items s es)))
     ∙ sym (both (flat_map (member_broken s) es) (item_names_broken (all_items s es)))
 
-lesser_some : (q : ValidReason) (o : Option ValidReason) → is_some (lesser (Some q) o) ≡ true
-lesser_some q None = refl
-lesser_some q (Some r) = here (nat_le (reason_number q) (reason_number r))
-  where
-    here : (b : Bool) → is_some (if b then Some q else Some r) ≡ true
-    here true = refl
-    here false = refl
-
-none_least : (rs : List ValidReason) → least rs ≡ None → rs ≡ []
-none_least [] e = refl
-none_least (r ∷ rs) e = let wrong : true ≡ false = sym (lesser_some r (least rs)) ∙ ap is_some e in absurd cc
-
-front_empty : {A : Type 0} (a b : List A) → a ++ b ≡ [] → a ≡ []
-front_empty [] b e = refl
-front_empty (r ∷ rs) b e = absurd cc
-
-back_empty : {A : Type 0} (a b : List A) → a ++ b ≡ [] → b ≡ []
-back_empty [] b e = e
-back_empty (r ∷ rs) b e = absurd cc
-
-pub is_none : {A : Type 0} (o : Option A) → is_some o ≡ false → o ≡ None
-is_none None e = refl
-is_none (Some x) e = absurd cc
-
 module _ (s : Spaces) (es : List InlineExport) (e : least (broken s (instance_item es)) ≡ None) where
   pub all_fine : flat_map (member_broken s) es ≡ []
-  all_fine = front_empty (flat_map (member_broken s) es) (item_names_broken (all_items s es)) (none_least (broken s (instance_item es)) e)
+  all_fine = nil_front (flat_map (member_broken s) es) (item_names_broken (all_items s es)) (none_broken (broken s (instance_item es)) e)
 
   pub names_fine : item_names_broken (all_items s es) ≡ []
-  names_fine = back_empty (flat_map (member_broken s) es) (item_names_broken (all_items s es)) (none_least (broken s (instance_item es)) e)
+  names_fine = nil_rest (flat_map (member_broken s) es) (item_names_broken (all_items s es)) (none_broken (broken s (instance_item es)) e)
 
 -- ---- names that differ
 
@@ -116,10 +93,6 @@ texts_differ (x ∷ xs) e = here (list_any (is_same_name x) xs) refl e (texts_di
     here : (b : Bool) → list_any (is_same_name x) xs ≡ b → (not b && are_distinct_names xs) ≡ true → (are_distinct_names xs ≡ true → are_distinct_texts xs ≡ true) → (not (list_any (bytes_eq x) xs) && are_distinct_texts xs) ≡ true
     here true f g rest = absurd cc
     here false f g rest = ap (λ b. not b && are_distinct_texts xs) (none_same x xs f) ∙ rest g
-
-unless_holds : (b : Bool) (r : ValidReason) → unless b r ≡ [] → b ≡ true
-unless_holds true r e = refl
-unless_holds false r e = absurd cc
 
 -- ---- an export that breaks nothing comes to one item of its name
 
@@ -147,15 +120,15 @@ names_are s [] e = refl
 names_are s (x ∷ xs) e =
     ap (map (λ (i : NamedItem). i.name)) (items_append (member_of_export s x) (flat_map (member_of_export s) xs))
     ∙ map-append (λ (i : NamedItem). i.name) (items_of_members (member_of_export s x)) (all_items s xs)
-    ∙ ap (λ v. v ++ map (λ (i : NamedItem). i.name) (all_items s xs)) (one_name s x.name x.sort x.index (front_empty (member_broken s x) (flat_map (member_broken s) xs) e))
-    ∙ ap (λ v. x.name ∷ v) (names_are s xs (back_empty (member_broken s x) (flat_map (member_broken s) xs) e))
+    ∙ ap (λ v. v ++ map (λ (i : NamedItem). i.name) (all_items s xs)) (one_name s x.name x.sort x.index (nil_front (member_broken s x) (flat_map (member_broken s) xs) e))
+    ∙ ap (λ v. x.name ∷ v) (names_are s xs (nil_rest (member_broken s x) (flat_map (member_broken s) xs) e))
 
 pub names_differ : (s : Spaces) (es : List InlineExport) → least (broken s (instance_item es)) ≡ None → are_distinct_texts (map (λ (x : InlineExport). x.name) es) ≡ true
 names_differ s es e =
     let items = all_items s es in
     let distinct : are_distinct_names (map (λ (i : NamedItem). i.name) items) ≡ true =
-    unless_holds (are_distinct_names (map (λ (i : NamedItem). i.name) items)) reason.DuplicateName
-    (front_empty (unless (are_distinct_names (map (λ (i : NamedItem). i.name) items)) reason.DuplicateName) (flat_map (λ (i : NamedItem). unless (is_well_named items i) reason.BadAnnotatedName) items) (names_fine s es e)) in
+    kept (are_distinct_names (map (λ (i : NamedItem). i.name) items)) reason.DuplicateName
+    (nil_front (unless (are_distinct_names (map (λ (i : NamedItem). i.name) items)) reason.DuplicateName) (flat_map (λ (i : NamedItem). unless (is_well_named items i) reason.BadAnnotatedName) items) (names_fine s es e)) in
     texts_differ (map (λ (x : InlineExport). x.name) es) (ap are_distinct_names (sym (names_are s es (all_fine s es e))) ∙ distinct)
 
 -- ---- lists that are read from the front
@@ -165,10 +138,10 @@ module _ {A B : Type 0} (f : A → List B) (xs : List A) (i : ℕ) (x : A) (lt :
   split = rw (add-one, drop-cons xs i x lt, ← is) refl
 
   pub here_empty : flat_map f (drop i xs) ≡ [] → f x ≡ []
-  here_empty e = front_empty (f x) (flat_map f (drop (i + 1) xs)) (sym split ∙ e)
+  here_empty e = nil_front (f x) (flat_map f (drop (i + 1) xs)) (sym split ∙ e)
 
   pub later_empty : flat_map f (drop i xs) ≡ [] → flat_map f (drop (i + 1) xs) ≡ []
-  later_empty e = back_empty (f x) (flat_map f (drop (i + 1) xs)) (sym split ∙ e)
+  later_empty e = nil_rest (f x) (flat_map f (drop (i + 1) xs)) (sym split ∙ e)
 
   pub read_more : (old new all : List B) → new ≡ old ++ f x → old ++ flat_map f (drop i xs) ≡ all → new ++ flat_map f (drop (i + 1) xs) ≡ all
   read_more old new all e before = ap (λ v. v ++ flat_map f (drop (i + 1) xs)) e ∙ append_assoc old (f x) (flat_map f (drop (i + 1) xs)) ∙ ap (λ v. old ++ v) (sym split) ∙ before

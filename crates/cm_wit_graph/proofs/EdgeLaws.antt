@@ -1,19 +1,17 @@
 -- Edges and marks, made part by part.
-use Rattle.std.proofs.Common.{◌≡◌, ◌↔◌, ℕ, zero, suc, ◌+◌, ◌<◌, ◌≤◌, ◌⊎◌, inl, inr, Bool, true, false, nat_lt, cond, if◌then◌else◌, List, [], ◌∷◌, ◌++◌, length, map, drop, get_or, Option, Some, None, refl, sym, ap, subst, ◌∙◌, append_assoc, append-nil, arith, All}
+use Rattle.std.proofs.Common.{◌≡◌, ◌↔◌, ℕ, zero, suc, ◌+◌, ◌<◌, ◌≤◌, inl, inr, Bool, true, false, nat_lt, cond, if◌then◌else◌, List, [], ◌∷◌, ◌++◌, length, map, drop, get_or, Option, Some, None, refl, sym, ap, subst, ◌∙◌, append_assoc, append-nil, arith, All}
 use Rattle.std.proofs.Math.ListN.{set, replicate}
 use Rattle.std.specs.List.{filter_map, cons_option, Contains}
 use Rattle.std.proofs.lemmas.Bool.{cases_eq}
 use Rattle.std.proofs.lemmas.Bool.Decides.{nat_tests}
-use Rattle.std.proofs.lemmas.List.{drop_all, drop_more, get_or-set_same, get_or-set_other, get_or_default, length-set}
+use Rattle.std.proofs.lemmas.List.{drop_all, get_or-set_same, get_or-set_other, get_or_default, length-set}
 use Rattle.cm_wit_graph.specs.Graphs.{Edges, IsMarked, IsWithin}
 use Rattle.cm_wit_graph.specs.Marked.{marked_edges}
 use Rattle.cm_wit_graph.specs.Reach.{Rows, edge, edges_from, used_by}
-
-next_element : {A B : Type 0} (view : A → B) (xs : List A) (i : ℕ) (x : A) → i < length xs → x ≡ get_or xs i x → map view (drop i xs) ≡ view x ∷ map view (drop (i + 1) xs)
-next_element {A} view xs i x lt is = ap (map view) (drop_more xs i x lt ∙ ap (λ (a : A). a ∷ drop (i + 1) xs) (sym is))
-
-first_element : {A : Type 0} (xs : List A) (i : ℕ) (x : A) → i < length xs → x ≡ get_or xs i x → drop i xs ≡ x ∷ drop (i + 1) xs
-first_element {A} xs i x lt is = drop_more xs i x lt ∙ ap (λ (a : A). a ∷ drop (i + 1) xs) (sym is)
+use Rattle.cm_lemmas.proofs.Lists.{all_cons, cons_in, rest_from, head_in, in_cons, next_element}
+use Rattle.cm_lemmas.proofs.Numbers.{less_of}
+use Rattle.cm_lemmas.proofs.Options.{some_number}
+use Rattle.cm_lemmas.proofs.Bools.{true_not_false}
 
 -- These stand there, and what is found in the rest makes all.
 pub record Finds {A D : Type 0} (h : A → Option D) (xs : List A) (i : ℕ) (start out : List D) : Type 0 where
@@ -26,12 +24,12 @@ pub finds_some : {A D : Type 0} (h : A → Option D) (xs : List A) (i : ℕ) (st
 finds_some {A} {D} h xs i start out x c lt e s f = record {
   is = append_assoc out (c ∷ []) (filter_map h (drop (i + 1) xs))
       ∙ (sym (ap (λ (o : Option D). out ++ cons_option o (filter_map h (drop (i + 1) xs))) s)
-      ∙ (sym (ap (λ (ys : List A). out ++ filter_map h ys) (first_element xs i x lt e)) ∙ f.is));
+      ∙ (sym (ap (λ (ys : List A). out ++ filter_map h ys) (rest_from xs i x lt e)) ∙ f.is));
 }
 
 pub finds_not : {A D : Type 0} (h : A → Option D) (xs : List A) (i : ℕ) (start out : List D) (x : A) → i < length xs → x ≡ get_or xs i x → h x ≡ None → Finds h xs i start out → Finds h xs (i + 1) start out
 finds_not {A} {D} h xs i start out x lt e s f = record {
-  is = sym (ap (λ (o : Option D). out ++ cons_option o (filter_map h (drop (i + 1) xs))) s) ∙ (sym (ap (λ (ys : List A). out ++ filter_map h ys) (first_element xs i x lt e)) ∙ f.is);
+  is = sym (ap (λ (o : Option D). out ++ cons_option o (filter_map h (drop (i + 1) xs))) s) ∙ (sym (ap (λ (ys : List A). out ++ filter_map h ys) (rest_from xs i x lt e)) ∙ f.is);
 }
 
 pub finds_all : {A D : Type 0} (h : A → Option D) (xs : List A) (i : ℕ) (start out : List D) → length xs ≤ i → Finds h xs i start out → out ≡ start ++ filter_map h xs
@@ -87,12 +85,6 @@ marks_start count named marks size off = record {
   all = λ k j lt before within e. absurd (omega (arith, before));
 }
 
-some_is : (a b : ℕ) → Some a ≡ Some b → a ≡ b
-some_is a b e = cc
-
-none_some : (a : ℕ) → None ≡ Some a → ⊥
-none_some a e = cc
-
 pub marks_skip : (count : ℕ) (named : List (Option ℕ)) (i : ℕ) (marks : List Bool) → ((k : ℕ) → k < count → get_or named i None ≡ Some k → ⊥) → Marks count named i marks → Marks count named (i + 1) marks
 marks_skip count named i marks skip m = record {
   size = m.size;
@@ -103,7 +95,7 @@ marks_skip count named i marks skip m = record {
   ];
 }
 
-set_marked : (marks : List Bool) (n k : ℕ) → n < length marks → IsMarked marks k → IsMarked (set marks n true) k
+pub set_marked : (marks : List Bool) (n k : ℕ) → n < length marks → IsMarked marks k → IsMarked (set marks n true) k
 set_marked marks n k lt m = elim (cases_eq k n) [
   | inl e ↦ ap (λ (b : ℕ). get_or (set marks n true) b false) e ∙ get_or-set_same marks n true false lt
   | inr d ↦ get_or-set_other marks n k true false d ∙ m
@@ -117,7 +109,7 @@ marks_set count named i n marks lt is small m = record {
     | inr d ↦ m.sound k (sym (get_or-set_other marks n k true false d) ∙ q)
   ];
   all = λ k j low before within e. elim (cases_eq j i) [
-    | inl q ↦ subst (λ (x : ℕ). IsMarked (set marks n true) x) (some_is n k (sym is ∙ subst (λ (x : ℕ). get_or named x None ≡ Some k) q e)) (get_or-set_same marks n true false (omega (arith, small, m.size)))
+    | inl q ↦ subst (λ (x : ℕ). IsMarked (set marks n true) x) (some_number n k (sym is ∙ subst (λ (x : ℕ). get_or named x None ≡ Some k) q e)) (get_or-set_same marks n true false (omega (arith, small, m.size)))
     | inr d ↦ set_marked marks n k (omega (arith, small, m.size)) (m.all k j low (omega (arith, before, d)) within e)
   ];
 }
@@ -129,18 +121,18 @@ marks_end count named i marks le m k = (
 )
 
 replicate_off : (n k : ℕ) → IsMarked (replicate n false) k → ⊥
-replicate_off zero zero m = absurd (true_not m)
+replicate_off zero zero m = absurd (true_not_false m)
   where
-    true_not : false ≡ true → ⊥
-    true_not e = cc
-replicate_off zero (suc k) m = absurd (true_not m)
+    true_not_false : false ≡ true → ⊥
+    true_not_false e = cc
+replicate_off zero (suc k) m = absurd (true_not_false m)
   where
-    true_not : false ≡ true → ⊥
-    true_not e = cc
-replicate_off (suc n) zero m = absurd (true_not m)
+    true_not_false : false ≡ true → ⊥
+    true_not_false e = cc
+replicate_off (suc n) zero m = absurd (true_not_false m)
   where
-    true_not : false ≡ true → ⊥
-    true_not e = cc
+    true_not_false : false ≡ true → ⊥
+    true_not_false e = cc
 replicate_off (suc n) (suc k) m = replicate_off n k m
 
 pub marks_off : (n : ℕ) (k : ℕ) → IsMarked (replicate n false) k → ⊥
@@ -149,16 +141,6 @@ marks_off n k m = replicate_off n k m
 pub ruleset name_laws = (marks_start, marks_end, marks_off)
 
 -- ---- edges to marked nodes
-
-in_cons : {A : Type 0} (x y : A) (xs : List A) → Contains (y ∷ xs) x → (y ≡ x) ⊎ Contains xs x
-in_cons x y xs (zero, lt, e) = inl e
-in_cons x y xs (suc k, lt, e) = inr (k, omega (arith, lt), e)
-
-cons_in : {A : Type 0} (x y : A) (xs : List A) → Contains xs x → Contains (y ∷ xs) x
-cons_in x y xs c = (suc c.0, omega (arith, c.1), c.2)
-
-head_in : {A : Type 0} (x y : A) (xs : List A) → y ≡ x → Contains (y ∷ xs) x
-head_in x y xs e = (0, omega arith, e)
 
 kept_by : (marks : List Bool) (e : ℕ × ℕ) (es : Edges) (b : Bool) → get_or marks e.1 false ≡ b → marked_edges marks (e ∷ es) ≡ cond b (e ∷ marked_edges marks es) (marked_edges marks es)
 kept_by marks e es true q = ap (λ (c : Bool). cons_option (if c then Some e else None) (marked_edges marks es)) q
@@ -175,26 +157,19 @@ pub kept_from : (marks : List Bool) (es : Edges) (x : ℕ × ℕ) → Contains (
 kept_from marks [] x c = absurd (omega (arith, c.1))
 kept_from marks (e ∷ es) x c = from_by marks e x es (get_or marks e.1 false) refl c (kept_from marks es x)
 
-true_not : true ≡ false → ⊥
-true_not f = cc
-
 to_by : (marks : List Bool) (e x : ℕ × ℕ) (es : Edges) (b : Bool) → get_or marks e.1 false ≡ b → Contains (e ∷ es) x → IsMarked marks x.1 → (Contains es x → Contains (marked_edges marks es) x) → Contains (marked_edges marks (e ∷ es)) x
 to_by marks e x es true q c m rest = subst (λ (l : Edges). Contains l x) (sym (kept_by marks e es true q)) (elim (in_cons x e es c) [
   | inl same ↦ head_in x e (marked_edges marks es) same
   | inr d ↦ cons_in x e (marked_edges marks es) (rest d)
 ])
 to_by marks e x es false q c m rest = subst (λ (l : Edges). Contains l x) (sym (kept_by marks e es false q)) (elim (in_cons x e es c) [
-  | inl same ↦ absurd (true_not (sym (subst (λ (y : ℕ × ℕ). IsMarked marks y.1) (sym same) m) ∙ q))
+  | inl same ↦ absurd (true_not_false (sym (subst (λ (y : ℕ × ℕ). IsMarked marks y.1) (sym same) m) ∙ q))
   | inr d ↦ rest d
 ])
 
 pub kept_to : (marks : List Bool) (es : Edges) (x : ℕ × ℕ) → Contains es x → IsMarked marks x.1 → Contains (marked_edges marks es) x
 kept_to marks [] x c m = absurd (omega (arith, c.1))
 kept_to marks (e ∷ es) x c m = to_by marks e x es (get_or marks e.1 false) refl c m (λ d. kept_to marks es x d m)
-
-all_cons : {A : Type 0} (P : A → Type 0) (x : A) (xs : List A) → P x → All P xs → All P (x ∷ xs)
-all_cons P x xs p rest zero d lt = p
-all_cons P x xs p rest (suc k) d lt = rest k d (omega (arith, lt))
 
 all_tail : {A : Type 0} (P : A → Type 0) (x : A) (xs : List A) → All P (x ∷ xs) → All P xs
 all_tail P x xs h k d lt = h (suc k) d (omega (arith, lt))
@@ -218,9 +193,6 @@ Inside count e = (e.0 < count) × (e.1 < count)
 
 none_inside : (count : ℕ) → IsWithin count []
 none_inside count k d lt = absurd (omega (arith, lt))
-
-less_of : (j count : ℕ) → nat_lt j count ≡ true → j < count
-less_of j count e = grind (arith, nat_tests)
 
 some_within : (count k j : ℕ) (rest : Edges) (b : Bool) → nat_lt j count ≡ b → k < count → IsWithin count rest → IsWithin count (cons_option (if nat_lt j count then Some (j, k) else None) rest)
 some_within count k j rest true e lt w = subst (λ (b : Bool). IsWithin count (cons_option (if b then Some (j, k) else None) rest)) (sym e) (all_cons (Inside count) (j, k) rest (less_of j count e, lt) w)

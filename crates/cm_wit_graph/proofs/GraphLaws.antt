@@ -3,38 +3,20 @@ use Rattle.std.proofs.Common.{◌≡◌, ◌==◌, ◌↔◌, if◌then◌else�
 use Rattle.std.proofs.lemmas.List.{get_or_default, length-map}
 use Rattle.std.proofs.Math.ListN.{get_or-eq_default}
 use Rattle.std.proofs.lemmas.Bool.{cases_lt}
-use Rattle.std.proofs.lemmas.Bool.Decides.{nat_tests}
 use Rattle.std.specs.List.{Contains}
 use Rattle.std.specs.Global.{Vec}
 use Rattle.cm_wit_graph.specs.Graphs.{Edges, HasEdge, IsWithin, Walk, Leads, IsMarked, LeadsToMarked}
 use Rattle.cm_wit_graph.specs.Marking.{WalkBy, LeadsBy, IsInto}
 use Rattle.cm_wit_graph.specs.Rows.{row_of, sources}
+use Rattle.cm_lemmas.proofs.Lists.{cons_in, in_head, in_cons, none_in}
+use Rattle.cm_lemmas.proofs.Numbers.{eq_self, eq_of}
 
 -- ---- membership by steps
 
-cons_in : {A : Type 0} (x y : A) (xs : List A) → Contains xs x → Contains (y ∷ xs) x
-cons_in x y xs c = (suc c.0, omega (arith, c.1), c.2)
-
-head_in : {A : Type 0} (x : A) (xs : List A) → Contains (x ∷ xs) x
-head_in x xs = (0, omega arith, refl)
-
-in_cons : {A : Type 0} (x y : A) (xs : List A) → Contains (y ∷ xs) x → (y ≡ x) ⊎ Contains xs x
-in_cons x y xs (zero, lt, e) = inl e
-in_cons x y xs (suc k, lt, e) = inr (k, omega (arith, lt), e)
-
-none_in : {A : Type 0} (x : A) → Contains [] x → ⊥
-none_in x h = omega (arith, h.1)
-
 -- ---- edges and sources
 
-eq_self : (x : ℕ) → (x == x) ≡ true
-eq_self x = grind (arith, nat_tests)
-
-same_of : (x y : ℕ) → (x == y) ≡ true → x ≡ y
-same_of x y e = grind (arith, nat_tests)
-
 source_head : (t : Bool) (x : ℕ) (xs : List ℕ) → t ≡ true → Contains (if t then x ∷ xs else xs) x
-source_head t x xs e = rw e (head_in x xs)
+source_head t x xs e = rw e (in_head x xs)
 
 source_tail : (t : Bool) (x a : ℕ) (xs : List ℕ) → Contains xs a → Contains (if t then x ∷ xs else xs) a
 source_tail true x a xs c = cons_in a x xs c
@@ -57,7 +39,7 @@ pair_is e a b p q = rw (← p, ← q) refl
 pub source_edge : (es : Edges) (a b : ℕ) → Contains (sources es b) a → HasEdge es a b
 source_edge [] a b c = absurd (none_in a c)
 source_edge (e ∷ es) a b c = elim (source_cases (e.1 == b) e.0 a (sources es b) c) [
-  | inl q ↦ let same = same_of e.1 b q.0 in subst (λ (p : ℕ × ℕ). Contains (e ∷ es) p) (pair_is e a b q.1 same) (head_in e es)
+  | inl q ↦ let same = eq_of e.1 b q.0 in subst (λ (p : ℕ × ℕ). Contains (e ∷ es) p) (pair_is e a b q.1 same) (in_head e es)
   | inr d ↦ cons_in (a, b) e es (source_edge es a b d)
 ]
 

@@ -1,7 +1,7 @@
 pub mod MarkLaws
 pub mod GraphLaws
 pub mod CycleLaws
-mod EdgeLaws
+pub mod EdgeLaws
 mod ReachLaws
 mod WalkLaws
 mod RankLaws

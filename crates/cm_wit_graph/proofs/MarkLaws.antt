@@ -10,13 +10,10 @@ use Rattle.std.specs.Global.{Vec}
 use Rattle.cm_wit_graph.specs.Graphs.{Edges, IsMarked}
 use Rattle.cm_wit_graph.specs.Rows.{row_of, sources}
 use Rattle.cm_wit_graph.specs.Marking.{unmarked, Marked, WalkBy, LeadsBy, IsInto}
-
-none_in : {A : Type 0} (x : A) → Contains [] x → ⊥
-none_in x h = omega (arith, h.1)
-
-only_in : (a x : ℕ) → Contains (x ∷ []) a → a ≡ x
-only_in a x (zero, h, e) = sym e
-only_in a x (suc k, h, e) = absurd (omega (arith, h))
+use Rattle.cm_lemmas.proofs.Lists.{empty_list, none_in, not_past, only_in}
+use Rattle.cm_lemmas.proofs.Numbers.{eq_self}
+use Rattle.cm_wit_graph.proofs.EdgeLaws.{set_marked}
+use Rattle.cm_lemmas.proofs.Bools.{true_is_not_false}
 
 is_in : {A : Type 0} (x : A) → Contains (x ∷ []) x
 is_in x = (0, omega arith, refl)
@@ -48,12 +45,6 @@ set_sound marks x a m = elim (cases_eq a x) [
   | inr n ↦ inl (sym (get_or-set_other marks x a true false n) ∙ m)
 ]
 
-set_kept : (marks : List Bool) (x a : ℕ) → x < length marks → IsMarked marks a → IsMarked (set marks x true) a
-set_kept marks x a lt m = elim (cases_eq a x) [
-  | inl e ↦ ap (λ (b : ℕ). get_or (set marks x true) b false) e ∙ get_or-set_same marks x true false lt
-  | inr n ↦ get_or-set_other marks x a true false n ∙ m
-]
-
 set_opened : (marks : List Bool) (x a : ℕ) (pending : List ℕ) → IsMarked (set marks x true) a → IsMarked marks a ⊎ Contains (pending ++ x ∷ []) a
 set_opened marks x a pending m = elim (set_sound marks x a m) [
   | inl k ↦ inl k
@@ -64,7 +55,7 @@ pub marked_now : (x : ℕ) (marks : List Bool) (pending : List ℕ) → x < leng
 marked_now x marks pending lt h = record {
   size = length-set marks x true;
   sound = λ a m. set_sound marks x a m;
-  kept = λ a m. set_kept marks x a lt m;
+  kept = λ a m. set_marked marks x a lt m;
   marked = λ a c. subst (λ (b : ℕ). IsMarked (set marks x true) b) (sym (only_in a x c)) (get_or-set_same marks x true false lt);
   opened = λ a m. set_opened marks x a pending m;
   stays = λ a c. Contains-append_left pending (x ∷ []) a c;
@@ -173,11 +164,6 @@ pub ruleset spread_laws = (spread_begins, spread_goes_on, spread_ends)
 pub is_unmarked : (marks : List Bool) (x : ℕ) (r : Bool) → x < length marks → r ≡ get_or marks x r → r ≡ false → get_or marks x false ≡ false
 is_unmarked marks x r lt e n = get_or_default marks x false r lt ∙ (sym e ∙ n)
 
-not_past : (marks : List Bool) (x : ℕ) → get_or marks x false ≡ true → x < length marks
-not_past [] x e = absurd cc
-not_past (m ∷ marks) zero e = omega arith
-not_past (m ∷ marks) (suc x) e = omega (arith, not_past marks x e)
-
 pub pending_within : (into : ℕ → List ℕ) (start now : List Bool) (before rest : List ℕ) (x : ℕ) → Spreads into start now before → before ≡ rest ++ x ∷ [] → x < length now
 pending_within into start now before rest x s e = not_past now x (s.are_marked x (subst (λ (p : List ℕ). Contains p x) (sym e) (Contains-append_right rest (x ∷ []) x (is_in x))))
 
@@ -187,10 +173,6 @@ row_is rows b row lt e = get_or-map (λ (r : Vec ℕ). r.items) rows b row [] lt
 pub spread_step : (into : ℕ → List ℕ) (start now next : List Bool) (before rest pending row : List ℕ) (x : ℕ) → Spreads into start now before → before ≡ rest ++ x ∷ [] → into x ≡ row → Marked row now next rest pending → Spreads into start next pending
 spread_step into start now next before rest pending row x s e r m =
     spread_goes_on into start now next rest pending x (subst (λ (p : List ℕ). Spreads into start now p) e s) (subst (λ (p : List ℕ). Marked p now next rest pending) (sym r) m)
-
-empty_list : (xs : List ℕ) → length xs ≡ 0 → xs ≡ []
-empty_list [] e = refl
-empty_list (x ∷ xs) e = absurd (omega (arith, e))
 
 pub spread_empty : (into : ℕ → List ℕ) (start now : List Bool) (pending : List ℕ) → Spreads into start now pending → length pending ≡ 0 → Spreads into start now []
 spread_empty into start now pending s e = subst (λ (p : List ℕ). Spreads into start now p) (empty_list pending e) s
@@ -204,9 +186,6 @@ source_front false x xs ys = refl
 pub sources_push : (es : Edges) (e : ℕ × ℕ) (b : ℕ) → sources (es ++ e ∷ []) b ≡ sources es b ++ (if e.1 == b then e.0 ∷ [] else [])
 sources_push [] e b = refl
 sources_push (d ∷ es) e b = ap (λ (xs : List ℕ). if d.1 == b then d.0 ∷ xs else xs) (sources_push es e b) ∙ source_front (d.1 == b) d.0 (sources es b) (if e.1 == b then e.0 ∷ [] else [])
-
-eq_self : (x : ℕ) → (x == x) ≡ true
-eq_self x = grind (arith, nat_tests)
 
 eq_other : (a b : ℕ) → (a ≡ b → ⊥) → (a == b) ≡ false
 eq_other a b n = grind (arith, nat_tests, n)
@@ -245,9 +224,6 @@ lists_marked marks i nodes l m = record {
     | inr n ↦ let below : a < i = omega (arith, lt, n) in Contains-append_left nodes (i ∷ []) a (l.complete a below k)
   ];
 }
-
-true_is_not_false : (b : Bool) → b ≡ false → b ≡ true → ⊥
-true_is_not_false b p q = cc
 
 pub lists_unmarked : (marks : List Bool) (i : ℕ) (nodes : List ℕ) → Lists marks i nodes → get_or marks i false ≡ false → Lists marks (i + 1) nodes
 lists_unmarked marks i nodes l m = record {

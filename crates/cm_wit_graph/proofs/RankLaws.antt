@@ -1,36 +1,15 @@
 -- Where no node needs itself, nodes can be ranked above those that they need.
 use Rattle.std.proofs.Common.{◌≡◌, ℕ, zero, suc, ◌<◌, ◌≤◌, Bool, true, false, ◌&&◌, ◌||◌, ◌⊎◌, inl, inr, cond, nat_eq, List, [], ◌∷◌, length, get_or, refl, sym, subst, arith}
 use Rattle.std.specs.List.{Contains, list_any}
-use Rattle.std.proofs.lemmas.Bool.{cases_lt}
+use Rattle.std.proofs.lemmas.Bool.{cases_lt, and_from, or_left, or_right}
 use Rattle.std.proofs.lemmas.Bool.Decides.{nat_tests}
 use Rattle.cm_wit_graph.specs.Orders.{Needs, Walk, NeedsItself, IsWithin, IsRanked}
+use Rattle.cm_lemmas.proofs.Bools.{both_true, not_both}
+use Rattle.cm_lemmas.proofs.Numbers.{nat_eq_of}
 
 or_split : (p q : Bool) → (p || q) ≡ true → (p ≡ true) ⊎ (q ≡ true)
 or_split true q e = inl refl
 or_split false q e = inr e
-
-or_left : (p q : Bool) → p ≡ true → (p || q) ≡ true
-or_left true q e = refl
-or_left false q e = absurd cc
-
-or_right : (p q : Bool) → q ≡ true → (p || q) ≡ true
-or_right true q e = refl
-or_right false q e = e
-
-and_both : (p q : Bool) → p ≡ true → q ≡ true → (p && q) ≡ true
-and_both true q e f = f
-and_both false q e f = absurd cc
-
-and_split : (p q : Bool) → (p && q) ≡ true → (p ≡ true) × (q ≡ true)
-and_split true q e = (refl, e)
-and_split false q e = absurd cc
-
-true_not : (p : Bool) → p ≡ true → p ≡ false → ⊥
-true_not true e f = cc
-true_not false e f = cc
-
-eq_is : (a b : ℕ) → nat_eq a b ≡ true → a ≡ b
-eq_is a b e = grind (arith, nat_tests)
 
 is_eq : (a b : ℕ) → a ≡ b → nat_eq a b ≡ true
 is_eq a b e = grind (arith, nat_tests)
@@ -38,7 +17,7 @@ is_eq a b e = grind (arith, nat_tests)
 some_name : (b : ℕ) (xs : List ℕ) → list_any (nat_eq b) xs ≡ true → Contains xs b
 some_name b [] e = absurd cc
 some_name b (x ∷ xs) e = elim (or_split (nat_eq b x) (list_any (nat_eq b) xs) e) [
-  | inl f ↦ (0, omega arith, sym (eq_is b x f))
+  | inl f ↦ (0, omega arith, sym (nat_eq_of b x f))
   | inr f ↦ (let p = some_name b xs f in (suc p.0, omega (arith, p.1), p.2))
 ]
 
@@ -54,7 +33,7 @@ count_below p (suc n) = cond (p n) (suc (count_below p n)) (count_below p n)
 
 fewer_step : (a b : Bool) (m n : ℕ) → (a ≡ true → b ≡ true) → m ≤ n → cond a (suc m) m ≤ cond b (suc n) n
 fewer_step true true m n h le = omega (arith, le)
-fewer_step true false m n h le = absurd (true_not false (h refl) refl)
+fewer_step true false m n h le = absurd (not_both false (h refl) refl)
 fewer_step false true m n h le = omega (arith, le)
 fewer_step false false m n h le = le
 
@@ -63,13 +42,13 @@ no_fewer p q h zero = omega arith
 no_fewer p q h (suc n) = fewer_step (p n) (q n) (count_below p n) (count_below q n) (h n) (no_fewer p q h n)
 
 less_here : (a b : Bool) (m n : ℕ) → a ≡ false → b ≡ true → m ≤ n → cond a (suc m) m < cond b (suc n) n
-less_here true b m n e f le = absurd (true_not true refl e)
+less_here true b m n e f le = absurd (not_both true refl e)
 less_here false true m n e f le = omega (arith, le)
-less_here false false m n e f le = absurd (true_not false f refl)
+less_here false false m n e f le = absurd (not_both false f refl)
 
 less_step : (a b : Bool) (m n : ℕ) → (a ≡ true → b ≡ true) → m < n → cond a (suc m) m < cond b (suc n) n
 less_step true true m n h lt = omega (arith, lt)
-less_step true false m n h lt = absurd (true_not false (h refl) refl)
+less_step true false m n h lt = absurd (not_both false (h refl) refl)
 less_step false true m n h lt = omega (arith, lt)
 less_step false false m n h lt = lt
 
@@ -102,13 +81,13 @@ module _ (needs : Needs) where
 
     through : (a b : ℕ) → by_way_of m a m ≡ true → by_way_of m m b ≡ true → by_way_of (suc m) a b ≡ true
     unfolding by_way_of
-    through a b e f = or_right (by_way_of m a b) (by_way_of m a m && by_way_of m m b) (and_both (by_way_of m a m) (by_way_of m m b) e f)
+    through a b e f = or_right (by_way_of m a b) (by_way_of m a m && by_way_of m m b) (and_from (by_way_of m a m) (by_way_of m m b) e f)
 
     split : (a b : ℕ) → by_way_of (suc m) a b ≡ true → (by_way_of m a b ≡ true) ⊎ ((by_way_of m a m ≡ true) × (by_way_of m m b ≡ true))
     unfolding by_way_of
     split a b e = elim (or_split (by_way_of m a b) (by_way_of m a m && by_way_of m m b) e) [
       | inl f ↦ inl f
-      | inr f ↦ inr (and_split (by_way_of m a m) (by_way_of m m b) f)
+      | inr f ↦ inr (both_true (by_way_of m a m) (by_way_of m m b) f)
     ]
 
     to_last : (a : ℕ) → by_way_of (suc m) a m ≡ true → by_way_of m a m ≡ true
@@ -214,5 +193,5 @@ module _ (needs : Needs) where
     pub some_or_none : ((k : ℕ) × NeedsItself needs k) ⊎ ((k : ℕ) → NeedsItself needs k → ⊥)
     some_or_none = elim (known count) [
       | inl h ↦ inl h
-      | inr h ↦ inr (λ k (p : NeedsItself needs k). true_not (by_way_of count k k) (far_leads p.0 k k p.1) (h k (last_within p.0 k k p.1)))
+      | inr h ↦ inr (λ k (p : NeedsItself needs k). not_both (by_way_of count k k) (far_leads p.0 k k p.1) (h k (last_within p.0 k k p.1)))
     ]

@@ -8,6 +8,7 @@ use Rattle.cm_wit_graph.specs.Graphs.{Edges, HasEdge, Walk, ReachesItself, IsMar
 use Rattle.cm_wit_graph.specs.Marked.{marked_edges}
 use Rattle.cm_wit_graph.specs.Reach.{Rows, IsReached, HasCycle, HasMissing, used_by, row_at}
 use Rattle.cm_wit_graph.proofs.EdgeLaws.{kept_from, kept_to, kept_within, used_within}
+use Rattle.cm_lemmas.proofs.Bools.{false_not_true}
 
 -- ---- paths that lead nowhere
 
@@ -37,13 +38,10 @@ past [] (suc k) le = refl
 past (r ∷ rows) zero le = absurd (omega (arith, le))
 past (r ∷ rows) (suc k) le = past rows k (omega (arith, le))
 
-false_not : false ≡ true → ⊥
-false_not e = cc
-
 pub no_missing_end : (rows : List (Vec (Option ℕ))) (marks : List Bool) (i : ℕ) → length rows ≤ i → NoMissing rows marks i → ((k : ℕ) × IsMarked marks k × (list_any is_none (row_at (map (λ r. r.items) rows) k) ≡ true)) → ⊥
 no_missing_end rows marks i le n (k, m, q) = elim (cases_lt k i) [
   | inl lt ↦ n.none k lt m q
-  | inr more ↦ false_not (sym (ap (list_any is_none) (past (map (λ r. r.items) rows) k (omega (arith, more, le, length-map rows (λ (r : Vec (Option ℕ)). r.items))))) ∙ q)
+  | inr more ↦ false_not_true (sym (ap (list_any is_none) (past (map (λ r. r.items) rows) k (omega (arith, more, le, length-map rows (λ (r : Vec (Option ℕ)). r.items))))) ∙ q)
 ]
 
 pub ruleset missing_laws = (no_missing_start, no_missing_next, missing_here, no_missing_end)
@@ -75,7 +73,7 @@ kept_cycle es starts marks r k (n, (c, e, w)) =
     (step_marked es starts marks r k c p.0 p.1, (n, (c, p.0, plain_walk es marks n c k w)))
 
 pub cycle_found : (es : Edges) (starts marks : List Bool) (first : Option ℕ) → IsFirstOnCycle (marked_edges marks es) first → ((a : ℕ) → IsMarked marks a ↔ LeadsToMarked es starts a) → is_some first ≡ true → (k : ℕ) × IsMarked marks k × ReachesItself es k
-cycle_found es starts marks None f r e = absurd (false_not e)
+cycle_found es starts marks None f r e = absurd (false_not_true e)
 cycle_found es starts marks (Some k) f r e = let c = kept_cycle es starts marks r k f.0 in (k, c.0, c.1)
 
 pub cycle_seen : (es : Edges) (starts marks : List Bool) (first : Option ℕ) → IsFirstOnCycle (marked_edges marks es) first → ((a : ℕ) → IsMarked marks a ↔ LeadsToMarked es starts a) → ((k : ℕ) × IsMarked marks k × ReachesItself es k) → is_some first ≡ true
@@ -97,7 +95,7 @@ is_missing rows named marks b r h true e = (λ t. inl e, λ m. refl)
 is_missing rows named marks b r h false e = (
   λ t. let x = h.0 t in inr (x.0, (r x.0).0 x.1, x.2),
   λ m. elim m [
-    | inl q ↦ absurd (false_not (sym e ∙ q))
+    | inl q ↦ absurd (false_not_true (sym e ∙ q))
     | inr x ↦ h.1 (x.0, (r x.0).1 x.1, x.2)
   ],
 )

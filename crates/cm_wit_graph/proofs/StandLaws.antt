@@ -1,5 +1,5 @@
 -- How a walk goes on.
-use Rattle.std.proofs.Common.{◌≡◌, ◌≢◌, ℕ, zero, suc, ◌+◌, ◌<◌, ◌≤◌, ◌⊎◌, Bool, true, false, inl, inr, List, [], ◌∷◌, ◌++◌, Some, None, length, take, get_or, refl, sym, ap, subst, ◌∙◌, arith, length-append}
+use Rattle.std.proofs.Common.{◌≡◌, ◌≢◌, ℕ, zero, suc, ◌+◌, ◌<◌, ◌≤◌, ◌⊎◌, Bool, true, false, inl, inr, List, [], ◌∷◌, ◌++◌, Some, None, length, take, get_or, refl, sym, ap, subst, ◌∙◌, arith}
 use Rattle.std.proofs.Math.ListN.{set, replicate}
 use Rattle.std.proofs.Math.Seq.{take-append_seam}
 use Rattle.std.specs.List.{All, Contains}
@@ -9,19 +9,11 @@ use Rattle.std.proofs.lemmas.Bool.{cases_eq, cases_lt}
 use Rattle.cm_wit_graph.specs.Orders.{Needs, NeedsItself, IsWithin, IsRanked, IsBehind, IsOrder}
 use Rattle.cm_wit_graph.specs.Walks.{AreSameNodes, IsOpenNeed, Entry, Standing, IsMarked, AreMet, AreMetBut, unmarked, Stands, Goes, IsSettled, IsThrough}
 use Rattle.cm_wit_graph.proofs.RankLaws.{ranks, some_or_none}
-
-pub none_in : {A : Type 0} (x : A) → Contains [] x → ⊥
-none_in x h = omega (arith, h.1)
-
-not_both : (b : Bool) → b ≡ true → b ≡ false → ⊥
-not_both true e f = cc
-not_both false e f = cc
+use Rattle.cm_lemmas.proofs.Lists.{length_push, none_in}
+use Rattle.cm_lemmas.proofs.Bools.{not_both}
 
 self_there : {A : Type 0} (xs : List A) (i : ℕ) (d : A) → i < length xs → Contains xs (get_or xs i d)
 self_there xs i d lt = Contains-get_or xs i d lt
-
-longer_by : (xs : List ℕ) (x : ℕ) → length (xs ++ x ∷ []) ≡ suc (length xs)
-longer_by xs x = let e = length-append xs (x ∷ []) in omega (arith, e)
 
 unmarked-set : (marks : List Bool) (x : ℕ) → x < length marks → get_or marks x false ≡ false → suc (unmarked (set marks x true)) ≡ unmarked marks
 unmarked-set [] x lt h = absurd (omega (arith, lt))
@@ -73,7 +65,7 @@ behind_last needs order node a =
 behind_push : (needs : Needs) (order : List ℕ) (node : ℕ) → IsBehind needs order → All (Contains order) (needs node) → IsBehind needs (order ++ node ∷ [])
 behind_push needs order node b a i lt = elim (cases_lt i (length order)) [
   | inl less ↦ behind_old needs order node i b less
-  | inr le ↦ (let same : length order ≡ i = omega (arith, lt, le, longer_by order node) in
+  | inr le ↦ (let same : length order ≡ i = omega (arith, lt, le, length_push order node) in
       subst (λ (n : ℕ). All (Contains (take n (order ++ node ∷ []))) (needs (get_or (order ++ node ∷ []) n 0))) same (behind_last needs order node a))
 ]
 
@@ -127,11 +119,11 @@ module _ (s : Standing) (node : ℕ) (stands : Stands s) (below : node < s.count
   place_goes = record {
     count = refl;
     needs = refl;
-    longer = omega (arith, longer_by s.order node);
+    longer = omega (arith, length_push s.order node);
     kept = λ i lt. get_or_append_left s.order (node ∷ []) 0 i lt;
     waits = λ j e h. h;
     closed = λ j h. refl;
-    work = omega (arith, longer_by s.order node, unmarked-set s.placed node in_marks is_open);
+    work = omega (arith, length_push s.order node, unmarked-set s.placed node in_marks is_open);
   }
 
   pub place_settled : IsSettled placed_now node

@@ -3,6 +3,7 @@ use Rattle.std.proofs.lemmas.List.{take_more}
 use Rattle.std.proofs.Common.{take, ◌≡◌, ℕ, zero, suc, ◌+◌, true, false, List, [], ◌∷◌, ◌++◌, drop, get_or, refl, sym, ap, subst, ◌∙◌, arith, ◌<◌, length, Some, None, slice_get}
 use Rattle.cm_wit_graph.specs.DepthFirst.{Orders, over, is_there, is_new, is_among}
 use Rattle.cm_wit_graph.specs.Paths.{After, Leaves}
+use Rattle.cm_lemmas.proofs.Options.{some_number}
 
 top : (needs : ℕ → List ℕ) (fs : List (ℕ × ℕ)) (f : ℕ × ℕ) (P : List ℕ → Type 0) (placed : List ℕ) → Leaves needs (fs ++ f ∷ []) P placed → After needs f (Leaves needs fs P) placed
 top needs [] f P placed h = h
@@ -12,12 +13,9 @@ put : (needs : ℕ → List ℕ) (fs : List (ℕ × ℕ)) (f : ℕ × ℕ) (P : 
 put needs [] f P placed h = h
 put needs (g ∷ fs) f P placed h = put needs fs f (After needs g P) placed h
 
-some_is : (y x : ℕ) → Some y ≡ Some x → y ≡ x
-some_is y x e = cc
-
 drop_from : (xs : List ℕ) (k x : ℕ) → slice_get xs k ≡ Some x → drop k xs ≡ x ∷ drop (suc k) xs
 drop_from [] k x e = absurd cc
-drop_from (y ∷ ys) zero x e = ap (λ (z : ℕ). z ∷ ys) (some_is y x e)
+drop_from (y ∷ ys) zero x e = ap (λ (z : ℕ). z ∷ ys) (some_number y x e)
 drop_from (y ∷ ys) (suc k) x e = drop_from ys k x e
 
 next : (k : ℕ) → suc k ≡ k + 1

@@ -7,14 +7,15 @@ use Rattle.cm_abi_model.specs.declared.fault.AbiFault.TheVariants as fault
 use Rattle.cm_types.specs.CoreValues.{kind_of}
 use Rattle.cm_abi_model.specs.Answered.{IsAllAnswered, Requesting}
 use Rattle.cm_abi_model.specs.declared.leaf.HandleLeaf.{HandleLeaf}
-use Rattle.cm_abi_model.specs.Copies.{IsFaultOfCopying, given_by, handles_of_values}
+use Rattle.cm_abi_model.specs.Copies.{IsFaultOfCopying, IsReceivingIn, given_by, handles_of_values}
 use Rattle.cm_abi_model.specs.Giving.{Gives, added_count}
 use Rattle.cm_abi_model.specs.HandleLeaves.{leaves_of}
 use Rattle.cm_abi_model.specs.Overlap.{AreDisjoint}
 use Rattle.cm_abi_model.specs.Placing.{regions_at}
-use Rattle.cm_abi_model.specs.Receives.{call_bytes, call_kinds, call_numbers}
+use Rattle.cm_abi_model.specs.Receives.{Receives, call_bytes, call_kinds, call_numbers}
 use Rattle.cm_abi_model.specs.Scanned.{Scanned}
 use Rattle.cm_abi_model.specs.Stores.{poke}
+use Rattle.cm_abi_model.specs.Views.{View}
 use Rattle.cm_abi_model.specs.Ways.{way_of}
 use Rattle.cm_abi_copy.specs.declared.copier.Copier.{Copier}
 use Rattle.cm_handles.specs.Handles.{indices_left}
@@ -187,8 +188,8 @@ put_numbers-requires-clause-fits c =
     (λ k. subst (λ xs. slice_index xs k < 2 ^ 32) (c.deref-numbers.ensures.value ∙ numbers_are (length c.args.memory.now) (map kind_of c.args.slots.now) giver c.args.found.now c.args.kept.now answers types v c.args.to c.args.table.now.handles c.give.new.table.handles c.give.new.numbers.items can settled gave) (c.are_numbers-2.ensures k))
     c.copy_call.new.slots numbers
 
-pub returns-clause-received : goal.returns-clause-received
-returns-clause-received c = λ giver w answers types v can view.
+pub returns-clause-copied : goal.returns-clause-copied
+returns-clause-copied c = λ giver answers types v can.
     let parts_are : c.kept.inside.lists.parts ≡ c.args.kept.now.parts = ap (λ (x : Scanned). x.parts) c.kept.view_is in
     let handles_are : leaves_of c.deref.result.now ≡ c.args.kept.now.handles = ap leaves_of c.deref.ensures.value ∙ ap (λ (x : Scanned). x.handles) c.kept.view_is in
     let settled = c.what_can_be_copied_is_settled.ensures (length c.args.memory.now) (map kind_of c.args.slots.now) giver c.args.found.now c.args.kept.now answers types v c.are_bytes.ensures can in
@@ -216,90 +217,19 @@ returns-clause-received c = λ giver w answers types v can view.
     c.copy_call.ensures.stored types v on ∙ ap (λ g. poke (call_bytes g (way_of c.args.found.now.passed.way) types v) c.args.memory.now) is in
     let clear = settled.regions.0 (subst (λ (p : Requesting). AreDisjoint (regions_at p.records p.places)) parts_are (c.are_apart.ensures.answer.0 (holds c.are_apart.result c.if-not-are_apart.false))) in
     let stored = framed (length c.args.memory.now) (map kind_of c.args.slots.now) giver c.args.found.now c.args.kept.now answers types v c.args.to c.args.table.now.handles c.give.new.table.handles c.give.new.numbers.items can settled gave c.what_is_stored_stays.ensures c.args.memory.now c.copy_call.new.memory refl clear bytes in
-    let has = received (length c.args.memory.now) (map kind_of c.args.slots.now) giver c.args.found.now c.args.kept.now answers types v c.args.to c.args.table.now.handles c.give.new.table.handles c.give.new.numbers.items can settled gave c.places_are_read_alike.ensures.placed c.places_are_read_alike.ensures.apart w c.copy_call.new.memory c.put_numbers.new.slots view stored.0
+    let has : (w : View) → IsReceivingIn w c.args.kept.now.parts.target c.args.to c.copy_call.new.memory c.give.new.table.handles
+    → Receives w (way_of c.args.found.now.passed.way) types c.put_numbers.new.slots (given_by c.args.kept.now.parts answers types v c.args.to c.args.table.now.handles) v =
+    λ w view.
+    received (length c.args.memory.now) (map kind_of c.args.slots.now) giver c.args.found.now c.args.kept.now answers types v c.args.to c.args.table.now.handles c.give.new.table.handles c.give.new.numbers.items can settled gave c.places_are_read_alike.ensures.placed c.places_are_read_alike.ensures.apart w c.copy_call.new.memory c.put_numbers.new.slots view stored.0
     (are_numbers (length c.args.memory.now) (map kind_of c.args.slots.now) giver c.args.found.now c.args.kept.now answers types v c.args.to c.args.table.now.handles c.give.new.table.handles c.give.new.numbers.items can settled gave c.what_is_passed_stays.ensures (take (length c.args.slots.now) all_zeros) c.copy_call.new.slots c.put_numbers.new.slots (none_there (length c.args.slots.now)) long numbers c.put_numbers.ensures)
     (gives (length c.args.memory.now) (map kind_of c.args.slots.now) giver c.args.found.now c.args.kept.now answers types v c.args.to c.args.table.now.handles c.give.new.table.handles c.give.new.numbers.items can settled gave)
     c.copy_call.ensures.stays clear in
-    has
-
-pub returns-clause-denoted : goal.returns-clause-denoted
-returns-clause-denoted c = λ giver w answers types v can view encoding none.
-    let parts_are : c.kept.inside.lists.parts ≡ c.args.kept.now.parts = ap (λ (x : Scanned). x.parts) c.kept.view_is in
-    let handles_are : leaves_of c.deref.result.now ≡ c.args.kept.now.handles = ap leaves_of c.deref.ensures.value ∙ ap (λ (x : Scanned). x.handles) c.kept.view_is in
-    let settled = c.what_can_be_copied_is_settled.ensures (length c.args.memory.now) (map kind_of c.args.slots.now) giver c.args.found.now c.args.kept.now answers types v c.are_bytes.ensures can in
-    let gave = subst (λ ls. Gives c.args.to c.args.table.now.handles c.give.new.table.handles ls c.give.new.numbers.items) handles_are c.in-Ok.ensures.gives in
-    let from : Copier = c.copier-from.result in
-    let same = c.are_apart.ensures.same ∙ parts_are in
-    let from_is : IsFrom from c.args.found.now c.args.kept.now.parts c.give.new.numbers.items =
     record {
-      memory = c.copier-from.ensures.memory;
-      encoding = c.copier-from.ensures.source ∙ (ap (λ (x : Encodings). x.source) c.encodings-encodings.ensures ∙ ap (λ (p : Requesting). p.source) same);
-      target = c.copier-from.ensures.target ∙ (ap (λ (x : Encodings). x.target) c.encodings-encodings.ensures ∙ ap (λ (p : Requesting). p.target) same);
-      places = c.copier-from.ensures.places ∙ (c.places-places.ensures.places ∙ ap (λ (p : Requesting). p.places) same);
-      numbers = c.copier-from.ensures.numbers ∙ c.deref-numbers.ensures.value;
-      records = c.copier-from.ensures.records ∙ (c.records-records.ensures ∙ ap (λ (p : Requesting). p.records) same);
-    } in
-    let few = few_slots (length c.args.memory.now) (map kind_of c.args.slots.now) giver c.args.found.now c.args.kept.now answers types v c.args.to c.args.table.now.handles c.give.new.table.handles c.give.new.numbers.items can settled gave c.args.slots.now refl in
-    let many = as_many (length c.args.memory.now) (map kind_of c.args.slots.now) giver c.args.found.now c.args.kept.now answers types v c.args.to c.args.table.now.handles c.give.new.table.handles c.give.new.numbers.items can settled gave c.args.slots.now refl in
-    let taken = taken_long (length c.args.slots.now) all_zeros few in
-    let long : length (call_kinds (way_of c.args.found.now.passed.way) types) ≤ length (take (length c.args.slots.now) all_zeros) = omega (arith, many, taken) in
-    let on = passed_on (length c.args.memory.now) (map kind_of c.args.slots.now) giver c.args.found.now c.args.kept.now answers types v c.args.to c.args.table.now.handles c.give.new.table.handles c.give.new.numbers.items can settled gave from (length (take (length c.args.slots.now) all_zeros)) from_is long in
-    let is = given_is (length c.args.memory.now) (map kind_of c.args.slots.now) giver c.args.found.now c.args.kept.now answers types v c.args.to c.args.table.now.handles c.give.new.table.handles c.give.new.numbers.items can settled gave from from_is in
-    let numbers : c.copy_call.new.slots ≡ poke (call_numbers (given_by c.args.kept.now.parts answers types v c.args.to c.args.table.now.handles) (way_of c.args.found.now.passed.way) types v) (take (length c.args.slots.now) all_zeros) =
-    c.copy_call.ensures.passed types v on ∙ ap (λ g. poke (call_numbers g (way_of c.args.found.now.passed.way) types v) (take (length c.args.slots.now) all_zeros)) is in
-    let bytes : c.copy_call.new.memory ≡ poke (call_bytes (given_by c.args.kept.now.parts answers types v c.args.to c.args.table.now.handles) (way_of c.args.found.now.passed.way) types v) c.args.memory.now =
-    c.copy_call.ensures.stored types v on ∙ ap (λ g. poke (call_bytes g (way_of c.args.found.now.passed.way) types v) c.args.memory.now) is in
-    let clear = settled.regions.0 (subst (λ (p : Requesting). AreDisjoint (regions_at p.records p.places)) parts_are (c.are_apart.ensures.answer.0 (holds c.are_apart.result c.if-not-are_apart.false))) in
-    let stored = framed (length c.args.memory.now) (map kind_of c.args.slots.now) giver c.args.found.now c.args.kept.now answers types v c.args.to c.args.table.now.handles c.give.new.table.handles c.give.new.numbers.items can settled gave c.what_is_stored_stays.ensures c.args.memory.now c.copy_call.new.memory refl clear bytes in
-    let has = received (length c.args.memory.now) (map kind_of c.args.slots.now) giver c.args.found.now c.args.kept.now answers types v c.args.to c.args.table.now.handles c.give.new.table.handles c.give.new.numbers.items can settled gave c.places_are_read_alike.ensures.placed c.places_are_read_alike.ensures.apart w c.copy_call.new.memory c.put_numbers.new.slots view stored.0
-    (are_numbers (length c.args.memory.now) (map kind_of c.args.slots.now) giver c.args.found.now c.args.kept.now answers types v c.args.to c.args.table.now.handles c.give.new.table.handles c.give.new.numbers.items can settled gave c.what_is_passed_stays.ensures (take (length c.args.slots.now) all_zeros) c.copy_call.new.slots c.put_numbers.new.slots (none_there (length c.args.slots.now)) long numbers c.put_numbers.ensures)
-    (gives (length c.args.memory.now) (map kind_of c.args.slots.now) giver c.args.found.now c.args.kept.now answers types v c.args.to c.args.table.now.handles c.give.new.table.handles c.give.new.numbers.items can settled gave)
-    c.copy_call.ensures.stays clear in
-    c.what_is_received_is_denoted.ensures w (way_of c.args.found.now.passed.way) types c.put_numbers.new.slots (given_by c.args.kept.now.parts answers types v c.args.to c.args.table.now.handles) v has
-    (received_serves (length c.args.memory.now) (map kind_of c.args.slots.now) giver c.args.found.now c.args.kept.now answers types v c.args.to c.args.table.now.handles c.give.new.table.handles c.give.new.numbers.items can settled gave w c.args.memory.now c.copy_call.new.memory view encoding c.copy_call.ensures.stays refl c.requires.few gave.sound) none
-
-pub returns-clause-framed : goal.returns-clause-framed
-returns-clause-framed c = λ giver answers types v can.
-    let parts_are : c.kept.inside.lists.parts ≡ c.args.kept.now.parts = ap (λ (x : Scanned). x.parts) c.kept.view_is in
-    let handles_are : leaves_of c.deref.result.now ≡ c.args.kept.now.handles = ap leaves_of c.deref.ensures.value ∙ ap (λ (x : Scanned). x.handles) c.kept.view_is in
-    let settled = c.what_can_be_copied_is_settled.ensures (length c.args.memory.now) (map kind_of c.args.slots.now) giver c.args.found.now c.args.kept.now answers types v c.are_bytes.ensures can in
-    let gave = subst (λ ls. Gives c.args.to c.args.table.now.handles c.give.new.table.handles ls c.give.new.numbers.items) handles_are c.in-Ok.ensures.gives in
-    let from : Copier = c.copier-from.result in
-    let same = c.are_apart.ensures.same ∙ parts_are in
-    let from_is : IsFrom from c.args.found.now c.args.kept.now.parts c.give.new.numbers.items =
-    record {
-      memory = c.copier-from.ensures.memory;
-      encoding = c.copier-from.ensures.source ∙ (ap (λ (x : Encodings). x.source) c.encodings-encodings.ensures ∙ ap (λ (p : Requesting). p.source) same);
-      target = c.copier-from.ensures.target ∙ (ap (λ (x : Encodings). x.target) c.encodings-encodings.ensures ∙ ap (λ (p : Requesting). p.target) same);
-      places = c.copier-from.ensures.places ∙ (c.places-places.ensures.places ∙ ap (λ (p : Requesting). p.places) same);
-      numbers = c.copier-from.ensures.numbers ∙ c.deref-numbers.ensures.value;
-      records = c.copier-from.ensures.records ∙ (c.records-records.ensures ∙ ap (λ (p : Requesting). p.records) same);
-    } in
-    let few = few_slots (length c.args.memory.now) (map kind_of c.args.slots.now) giver c.args.found.now c.args.kept.now answers types v c.args.to c.args.table.now.handles c.give.new.table.handles c.give.new.numbers.items can settled gave c.args.slots.now refl in
-    let many = as_many (length c.args.memory.now) (map kind_of c.args.slots.now) giver c.args.found.now c.args.kept.now answers types v c.args.to c.args.table.now.handles c.give.new.table.handles c.give.new.numbers.items can settled gave c.args.slots.now refl in
-    let taken = taken_long (length c.args.slots.now) all_zeros few in
-    let long : length (call_kinds (way_of c.args.found.now.passed.way) types) ≤ length (take (length c.args.slots.now) all_zeros) = omega (arith, many, taken) in
-    let on = passed_on (length c.args.memory.now) (map kind_of c.args.slots.now) giver c.args.found.now c.args.kept.now answers types v c.args.to c.args.table.now.handles c.give.new.table.handles c.give.new.numbers.items can settled gave from (length (take (length c.args.slots.now) all_zeros)) from_is long in
-    let is = given_is (length c.args.memory.now) (map kind_of c.args.slots.now) giver c.args.found.now c.args.kept.now answers types v c.args.to c.args.table.now.handles c.give.new.table.handles c.give.new.numbers.items can settled gave from from_is in
-    let bytes : c.copy_call.new.memory ≡ poke (call_bytes (given_by c.args.kept.now.parts answers types v c.args.to c.args.table.now.handles) (way_of c.args.found.now.passed.way) types v) c.args.memory.now =
-    c.copy_call.ensures.stored types v on ∙ ap (λ g. poke (call_bytes g (way_of c.args.found.now.passed.way) types v) c.args.memory.now) is in
-    let clear = settled.regions.0 (subst (λ (p : Requesting). AreDisjoint (regions_at p.records p.places)) parts_are (c.are_apart.ensures.answer.0 (holds c.are_apart.result c.if-not-are_apart.false))) in
-    let stored = framed (length c.args.memory.now) (map kind_of c.args.slots.now) giver c.args.found.now c.args.kept.now answers types v c.args.to c.args.table.now.handles c.give.new.table.handles c.give.new.numbers.items can settled gave c.what_is_stored_stays.ensures c.args.memory.now c.copy_call.new.memory refl clear bytes in
-    stored.1
-
-pub returns-clause-handles : goal.returns-clause-handles
-returns-clause-handles c = λ giver answers types v can.
-    let parts_are : c.kept.inside.lists.parts ≡ c.args.kept.now.parts = ap (λ (x : Scanned). x.parts) c.kept.view_is in
-    let handles_are : leaves_of c.deref.result.now ≡ c.args.kept.now.handles = ap leaves_of c.deref.ensures.value ∙ ap (λ (x : Scanned). x.handles) c.kept.view_is in
-    let settled = c.what_can_be_copied_is_settled.ensures (length c.args.memory.now) (map kind_of c.args.slots.now) giver c.args.found.now c.args.kept.now answers types v c.are_bytes.ensures can in
-    let gave = subst (λ ls. Gives c.args.to c.args.table.now.handles c.give.new.table.handles ls c.give.new.numbers.items) handles_are c.in-Ok.ensures.gives in
-    subst (λ ls. Gives c.args.to c.args.table.now.handles c.give.new.table.handles ls c.give.new.numbers.items) can.found.handles gave
-
-pub returns-clause-apart : goal.returns-clause-apart
-returns-clause-apart c = λ giver answers types v can.
-    let parts_are : c.kept.inside.lists.parts ≡ c.args.kept.now.parts = ap (λ (x : Scanned). x.parts) c.kept.view_is in
-    let handles_are : leaves_of c.deref.result.now ≡ c.args.kept.now.handles = ap leaves_of c.deref.ensures.value ∙ ap (λ (x : Scanned). x.handles) c.kept.view_is in
-    let settled = c.what_can_be_copied_is_settled.ensures (length c.args.memory.now) (map kind_of c.args.slots.now) giver c.args.found.now c.args.kept.now answers types v c.are_bytes.ensures can in
-    let gave = subst (λ ls. Gives c.args.to c.args.table.now.handles c.give.new.table.handles ls c.give.new.numbers.items) handles_are c.in-Ok.ensures.gives in
-    let clear = settled.regions.0 (subst (λ (p : Requesting). AreDisjoint (regions_at p.records p.places)) parts_are (c.are_apart.ensures.answer.0 (holds c.are_apart.result c.if-not-are_apart.false))) in
-    clear
+      received = has;
+      denoted = λ w view encoding none.
+          c.what_is_received_is_denoted.ensures w (way_of c.args.found.now.passed.way) types c.put_numbers.new.slots (given_by c.args.kept.now.parts answers types v c.args.to c.args.table.now.handles) v (has w view)
+          (received_serves (length c.args.memory.now) (map kind_of c.args.slots.now) giver c.args.found.now c.args.kept.now answers types v c.args.to c.args.table.now.handles c.give.new.table.handles c.give.new.numbers.items can settled gave w c.args.memory.now c.copy_call.new.memory view encoding c.copy_call.ensures.stays refl c.requires.few gave.sound) none;
+      framed = stored.1;
+      gives = subst (λ ls. Gives c.args.to c.args.table.now.handles c.give.new.table.handles ls c.give.new.numbers.items) can.found.handles gave;
+      apart = clear;
+    }

@@ -1,9 +1,9 @@
-use Rattle.std.proofs.Common.{Err, inl, inr, sym, ap, subst, ◌∙◌, ◌≡◌, arith, false, length, refl, true}
+use Rattle.std.proofs.Common.{Err, inl, inr, ap, subst, ◌∙◌, ◌≡◌, arith, false, length, refl, true}
 use Rattle.std.proofs.lemmas.List.{length-map}
 use Rattle.std.proofs.lemmas.Result.{IfOk-weaker}
 use Rattle.cm_layout.specs.Layouts.{layout_of}
 use Rattle.cm_abi_model.specs.Answered.{Requesting, unanswered}
-use Rattle.cm_abi_model.specs.HandleLeaves.{leaf_of, leaves_of}
+use Rattle.cm_abi_model.specs.HandleLeaves.{leaf_of}
 use Rattle.cm_abi_model.specs.Views.{flat_limit}
 use Rattle.cm_abi_model.specs.Ways.{way_of}
 use Rattle.cm_abi_lift.specs.HandingOver.{hand_over, handed, untouched}

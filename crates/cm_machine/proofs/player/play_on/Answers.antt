@@ -22,7 +22,7 @@ pub returns-then-is_over-clause-ok : goal.returns-then-is_over-clause-ok
 returns-then-is_over-clause-ok g c first is =
     let p = c.loop.invariant.playing first is in
     let last : is_last (last_of first p.told) ≡ true = sym (c.is_over.ensures first p.told p.events_are) ∙ c.if-is_over.true in
-    stops_over (λ b rest. (goal.Guest-dyn g (b.vtable, b.value)).plays b.value rest) c.args.set.now first c.args.seats.now.items c.args.limit c.loop.events.items c.loop.set c.loop.seats.items c.loop.counter p last
+    stops_over (λ b rest. (goal.Guest-dyn g (b.vtable, b.value)).plays b.value rest) c.args.set.now first c.args.seats.now.items c.args.limit c.loop.events.items c.loop.set c.loop.seats.items c.loop.counter p (omega (arith, c.loop-test.true)) last
 
 pub returns-then-is_err-clause-halt : goal.returns-then-is_err-clause-halt
 returns-then-is_err-clause-halt g c first is =

@@ -4,7 +4,7 @@ use Rattle.cm_abi_model.specs.Scanned.{ScansCall}
 use Rattle.cm_abi_model.specs.Ways.{way_of}
 use Rattle.cm_machine_model.specs.Plan.{receiver_side, types_of}
 use Rattle.cm_machine_model.specs.Step.{trap_of}
-use Rattle.cm_machine_calls.proofs.Counts.{lent_is_some, never, nothing_is_none}
+use Rattle.cm_machine_calls.proofs.Counts.{lent_is_some, nothing_is_none}
 use Rattle.cm_machine_calls.proofs.lift.scan_flat_values.Goals as goal
 
 pub scan-requires-clause-layout : goal.scan-requires-clause-layout
@@ -34,11 +34,12 @@ returns-in-Err-clause-looks c = λ l w is given.
     let layout = (c.layout_of-layout.ensures l is) in
     let seen : IsGivenBy w c.args.memory.now c.args.table.now.handles c.encodings_of.result.source =
     record { memory_is = given.memory_is; table_is = given.table_is; encoding_is = given.encoding_is ∙ sym (c.encodings_of.ensures.source l is) } in
-    elim (c.in-Err.ensures.stops w (types_of l way) seen layout) [
+    let fault = c.in-Err.ensures.scans w (types_of l way) seen layout in
+    elim fault.first [
       | inl memory ↦ inr (
         (λ v denotes none.
             let nothing = nothing_is_none way (types_of l way) v none in
-            never (c.in-Err.ensures.memory w (types_of l way) v seen layout denotes nothing.0 nothing.1)),
+            fault.something v denotes nothing.0 nothing.1),
         c.trap_of.ensures ∙ ap trap_of memory,
       )
       | inr stops ↦ inl (c.in-Err.fault, stops, c.trap_of.ensures)

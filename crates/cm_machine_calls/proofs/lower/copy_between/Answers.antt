@@ -5,7 +5,8 @@ use Rattle.cm_abi_model.specs.Answering.{first_fault}
 use Rattle.cm_abi_model.specs.Copies.{IsFaultOfCopying, handles_of_values}
 use Rattle.cm_abi_model.specs.Ways.{way_of}
 use Rattle.cm_machine_model.specs.Memories.{memory_at}
-use Rattle.cm_machine_calls.specs.Handing.{CanCopy, IsCopied, IsCopiedIn}
+use Rattle.cm_abi_copy.specs.Copies.{IsCopied}
+use Rattle.cm_machine_calls.specs.Handing.{CanCopy, IsCopiedIn}
 use Rattle.cm_machine_calls.proofs.Pairs.{set_again, set_back, at_other}
 use Rattle.cm_machine_calls.proofs.Results.{match_more, err_more}
 use Rattle.cm_machine_calls.proofs.lower.copy_between.Goals as goal

@@ -1,11 +1,10 @@
 use Rattle.std.proofs.Common.{◌≡◌, ◌∙◌, ◌++◌, ap, sym, subst, ℕ, List, None, length, map, take, drop, arith}
 use Rattle.cm_types.specs.CoreValues.{kind_of}
 use Rattle.cm_types.specs.declared.core_value.CoreValue.{CoreValue}
-use Rattle.cm_abi_copy.specs.Copies.{FoundCanBeCopied}
+use Rattle.cm_abi_copy.specs.Copies.{FoundCanBeCopied, IsCopied}
 use Rattle.cm_abi_model.specs.Answered.{all_requests}
 use Rattle.cm_abi_model.specs.Answering.{first_fault}
 use Rattle.cm_abi_model.specs.Ways.{way_of}
-use Rattle.cm_machine_calls.specs.Handing.{IsCopied}
 use Rattle.cm_machine_calls.proofs.Results.{written_back}
 use Rattle.cm_machine_calls.proofs.lower.copy_into.Goals as goal
 
@@ -48,12 +47,7 @@ returns-in-Ok-clause-copied c = λ view answers types v can.
       kinds_are = c.put_zeros.ensures ∙ can.kinds_are;
     } in
     let base : IsCopied to way types v parts answers c.deref_mut.result.now c.copy.new.memory old new c.copy.new.slots numbers =
-    record {
-      apart = c.in-Ok.ensures.apart view answers types v found;
-      received = λ w receiving. c.in-Ok.ensures.received view w answers types v found receiving;
-      framed = c.in-Ok.ensures.framed view answers types v found;
-      gives = c.in-Ok.ensures.handles view answers types v found;
-    } in
+    c.in-Ok.ensures.copied view answers types v found in
     let back : take c.args.bytes.now.len (c.copy.new.memory ++ drop (length c.copy.new.memory) c.args.bytes.now.items) ≡ c.copy.new.memory =
     written_back c.args.bytes.now.len c.args.bytes.now.items c.copy.new.memory (omega arith) (omega (arith, ap length c.deref_mut.ensures.value)) in
     subst (λ (b : List ℕ). IsCopied to way types v parts answers b (take c.args.bytes.now.len (c.copy.new.memory ++ drop (length c.copy.new.memory) c.args.bytes.now.items)) old new c.from_slice.result numbers) c.deref_mut.ensures.value

@@ -15,7 +15,8 @@ use Rattle.cm_machine_model.specs.State.{State, table_at}
 use Rattle.cm_machine_model.specs.Step.{giver_of, owners_given}
 use Rattle.cm_machine_parts.specs.States.{handles_in, state_of}
 use Rattle.cm_machine_calls.specs.Going.{passage_now}
-use Rattle.cm_machine_calls.specs.Handing.{IsCopied, StopsHanding}
+use Rattle.cm_abi_copy.specs.Copies.{IsCopied}
+use Rattle.cm_machine_calls.specs.Handing.{StopsHanding}
 use Rattle.cm_machine_calls.proofs.GoingLaws.{can_copy, few_kinds, giver_there, handed_same, receiver_there, sides_apart}
 use Rattle.cm_machine_calls.proofs.HandingLaws.{all_are, apart_is, handed_is, numbers_are, room_is, stopped, table_is}
 use Rattle.cm_machine_calls.proofs.Pairs.{at_same}

@@ -9,9 +9,10 @@ use Rattle.cm_validate_model.specs.Spaces.{Spaces}
 use Rattle.cm_validate_instance_types.specs.Sketches.{sketch_named}
 use Rattle.cm_validate_entries.specs.ComponentSpaces.{AreTypesOf, IsComponentOf}
 use Rattle.cm_validate_instances.specs.Members.{AreMembers, Stand, export_sketches}
-use Rattle.cm_validate_instances.proofs.GatherLaws.{stays}
-use Rattle.cm_validate_instances.proofs.NameLaws.{all_fine, instance_fault, is_none, names_differ}
+use Rattle.cm_validate_instances.proofs.NameLaws.{all_fine, instance_fault, names_differ}
 use Rattle.cm_validate_instances.proofs.instances.add_instance.Goals as goal
+use Rattle.cm_lemmas.proofs.Options.{is_none}
+use Rattle.cm_validate_entries.proofs.ImportLaws.{stays}
 
 pub returns-then-is_some-clause-answer : goal.returns-then-is_some-clause-answer
 returns-then-is_some-clause-answer c =

@@ -3,8 +3,8 @@ use Rattle.cm_validate_model.specs.Rules.{member_broken}
 use Rattle.cm_validate_instance_types.specs.Sketches.{sketch_named}
 use Rattle.cm_validate_instances.specs.Members.{export_sketches}
 use Rattle.cm_validate_instances.proofs.NameLaws.{read_all, read_more}
-use Rattle.cm_validate_instances.proofs.ReasonLaws.{read_end, read_on}
 use Rattle.cm_validate_instances.proofs.members.examine.Goals as goal
+use Rattle.cm_validate_model.proofs.ReasonsLaws.{read_end, read_on}
 
 pub loop-export-init : goal.loop-export-init
 loop-export-init c = record { broken = λ s t. refl; sketched = λ s t. refl }

@@ -6,8 +6,8 @@ use Rattle.cm_validate_model.specs.Rules.{member_broken}
 use Rattle.cm_validate_model.specs.Spaces.{Spaces}
 use Rattle.cm_validate_instance_types.specs.Sketches.{sketch_named}
 use Rattle.cm_validate_instances.specs.Members.{Stand, export_sketches}
-use Rattle.cm_validate_instances.proofs.ReasonLaws.{rest_fault}
 use Rattle.cm_validate_instances.proofs.members.examine.Given as goal
+use Rattle.cm_validate_model.proofs.FaultLaws.{rest_fault}
 
 -- the lesser of what was met and what is to come is the least of all; the sketches so far and those
 -- to come are all

@@ -2,12 +2,15 @@ use Rattle.std.proofs.Common.{◌≡◌, ℕ, List, [], ◌∷◌, map, length, 
 use Rattle.cm_validate_model.specs.Rules.{member_broken}
 use Rattle.cm_validate_model.specs.Spaces.{named_member as member_of_export}
 use Rattle.cm_validate_entries.specs.Entries.{is_member_there, member_def, named_member}
-use Rattle.cm_validate_instances.proofs.GatherLaws.{all_pushed, broken_at, broken_none, fine_at}
+use Rattle.cm_validate_instances.proofs.GatherLaws.{broken_at, broken_none, fine_at}
 use Rattle.cm_validate_instances.proofs.MemberLaws.{one_named}
 use Rattle.cm_validate_instances.proofs.NameLaws.{here_empty, later_empty, taken_all}
-use Rattle.cm_validate_instances.proofs.TextLaws.{at_first, has_key, key_more, one_more_def, seen_again, seen_first, was_new, was_seen}
+use Rattle.cm_validate_instances.proofs.TextLaws.{has_key, key_more, seen_again, seen_first}
 use Rattle.cm_validate_names.specs.NameMaps.{entries_of}
 use Rattle.cm_validate_instances.proofs.members.gather.Goals as goal
+use Rattle.cm_lemmas.proofs.Lists.{all_pushed, one_more_def}
+use Rattle.cm_validate_model.proofs.RulesLaws.{at_first}
+use Rattle.cm_lemmas.proofs.Bools.{was_new, was_seen}
 
 pub loop-export-init : goal.loop-export-init
 loop-export-init c = record {

@@ -7,8 +7,9 @@ use Rattle.cm_validate_model.specs.Spaces.{named_member as member_of_export}
 use Rattle.cm_validate_entries.specs.Entries.{is_member_there, named_member}
 use Rattle.cm_validate_names.specs.NameMaps.{entries_of}
 use Rattle.cm_validate_instances.specs.Members.{Stand}
-use Rattle.cm_validate_instances.proofs.TextLaws.{has_key, rest_is_distinct}
+use Rattle.cm_validate_instances.proofs.TextLaws.{has_key}
 use Rattle.cm_validate_instances.proofs.members.gather.Given as goal
+use Rattle.cm_validate_model.proofs.SharedLaws.{rest_is_distinct}
 
 -- where no export breaks anything and no two names are equal: so it is of those to come, whose names
 -- are not among those of the members; and the members are what the exports before name

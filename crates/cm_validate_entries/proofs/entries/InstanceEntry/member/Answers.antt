@@ -7,8 +7,9 @@ use Rattle.cm_validate_model.specs.Spaces.{member_named}
 use Rattle.cm_validate_items.specs.InstanceTypes.{instance_type_of}
 use Rattle.cm_validate_items.specs.Items.{item_named}
 use Rattle.cm_validate_entries.specs.Entries.{are_members_there, is_member_there, item_member, member_def, members_of, named_member}
-use Rattle.cm_validate_entries.proofs.MemberLaws.{named_item, item_there, some_has, looked_up, looked_there}
+use Rattle.cm_validate_entries.proofs.MemberLaws.{named_item, item_there, looked_up, looked_there}
 use Rattle.cm_validate_entries.proofs.entries.InstanceEntry.member.Goals as goal
+use Rattle.cm_lemmas.proofs.Options.{some_has}
 
 pub returns-in_err-number-in-Imported-clause-def :
     goal.returns-in_err-number-in-Imported-clause-def

@@ -2,8 +2,8 @@ use Rattle.std.proofs.Common.{◌≡◌, true, length, sym, ap, ◌∙◌}
 use Rattle.std.specs.Option.{option_map}
 use Rattle.cm_validate_entries.specs.Entries.{is_member_there, member_def}
 use Rattle.cm_validate_entries.proofs.AliasLaws.{func_answer, resource_answer, value_answer}
-use Rattle.cm_validate_entries.proofs.MemberLaws.{some_has}
 use Rattle.cm_validate_entries.proofs.spaces.ComponentSpaces.alias.Goals as goal
+use Rattle.cm_lemmas.proofs.Options.{some_has}
 
 pub returns-in_ok-push_func-in-Func-Func-clause-answer :
     goal.returns-in_ok-push_func-in-Func-Func-clause-answer
