@@ -87,7 +87,7 @@ module _ (plan : Plan) (s new : CodedState) (i func : ℕ) (l : Link) (args : Li
       let link = link_of plan i func l runs.valid.linked reaches in
       (omega (arith, link.earlier, has_funcs plan i func l reaches), ((l, reaches, refl), (top, on_top, acts, leaves)), runs.valid.stack)
 
-  pub args_under : new.passing.is_on_its_way ≡ true → IsEncoded l params new.passing → IsSoundHandles (table_at (state_of new).tables i)
+  pub args_under : new.passing.scan.has_value ≡ true → IsEncoded l params new.passing → IsSoundHandles (table_at (state_of new).tables i)
       → length s.stack.borrows ≡ MAX_FRAMES → new.stack.borrows ≡ slice_set s.stack.borrows (length s.stack.frames) 0 → borrows_of (length s.stack.frames) (table_at (state_of s).tables l.instance) ≡ 0
       → ((call : ℕ) → borrows_of call after ≡ borrows_of call (table_at (state_of s).tables i)) → IsUnderWay plan new l params (new_call i func l args) v []
   args_under passes encoded sound places borrows none same = record {

@@ -212,7 +212,7 @@ module _ (plan : Plan) (s : CodedState) (l : Link) (way : Way) (call : Call) (to
   stack_is : s.stack.frames ≡ record { instance = l.instance; purpose = purpose.Call call } ∷ below_top s.stack.frames
   stack_is = top_parts s.stack.frames top on_top ∙ ap (λ (f : Frame). f ∷ below_top s.stack.frames) (top_frame l call top call_top.instance is_call)
 
-  on_way_by : (p : Passage) → (state_of s).passage ≡ Some p → (s.passing.is_on_its_way ≡ true) × (passage_now s ≡ p) → IsOnItsWay (state_of s) l way call p → OnItsWay plan s l way call
+  on_way_by : (p : Passage) → (state_of s).passage ≡ Some p → (s.passing.scan.has_value ≡ true) × (passage_now s ≡ p) → IsOnItsWay (state_of s) l way call p → OnItsWay plan s l way call
   on_way_by p there is x =
       let y : IsOnItsWay (state_of s) l way call (passage_now s) = subst (λ (q : Passage). IsOnItsWay (state_of s) l way call q) (sym is.1) x in
       record {
@@ -251,7 +251,7 @@ module _ (plan : Plan) (s : CodedState) (l : Link) (way : Way) (call : Call) (to
   on_its_way =
       let x = passes_in way call.phase (state_of s) l call (state_of s).passage phase_is
       (subst (λ (q : Purpose). PassesFor plan (state_of s) q) is_call (passes_at plan (state_of s) s.stack.frames top on_top runs.valid.passes) l reaches) in
-      on_way_by x.0 x.1 (is_passing s.passing.is_on_its_way (passage_now s) x.0 x.1) x.2
+      on_way_by x.0 x.1 (is_passing s.passing.scan.has_value (passage_now s) x.0 x.1) x.2
 
 -- ---- a result
 
@@ -294,7 +294,7 @@ module _ (plan : Plan) (s new : CodedState) (l : Link) (call : Call) (values : L
   high_back : length s.stack.frames ≡ length (frame ∷ below_top s.stack.frames)
   high_back = ap (λ (x : List Frame). length x) (top_parts s.stack.frames top on_top)
 
-  pub result_under : new.passing.is_on_its_way ≡ true → IsEncoded l results new.passing → IsSoundHandles (table_at (state_of new).tables l.instance) → length s.stack.borrows ≡ MAX_FRAMES
+  pub result_under : new.passing.scan.has_value ≡ true → IsEncoded l results new.passing → IsSoundHandles (table_at (state_of new).tables l.instance) → length s.stack.borrows ≡ MAX_FRAMES
       → new.stack.borrows ≡ s.stack.borrows → ((n : ℕ) → borrows_of n after ≡ borrows_of n (table_at (state_of s).tables l.instance)) → CanEnd s
       → CanGo (table_at (state_of s).tables l.instance) MAX_CONTENT ms → IsHanded (table_at (state_of s).tables l.instance) ms after → IsUnderWay plan new l results (in_results call) v []
   result_under passes encoded sound places borrows same ends go handed = record {

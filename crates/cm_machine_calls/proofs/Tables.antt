@@ -1,11 +1,13 @@
 -- The handle tables of a running set, as the rules see them.
 use Rattle.std.proofs.Common.{◌≡◌, ℕ, zero, suc, ◌<◌, List, [], ◌∷◌, length, get_or, Option, refl, sym, ap, ◌∙◌, arith}
-use Rattle.std.specs.Prelude.{slice_set}
+use Rattle.std.specs.Prelude.{slice_set, if◌then◌else◌, Bool, false, Some, None}
 use Rattle.cm_handles.specs.Handles.{Handles, TableState, no_handles}
 use Rattle.cm_abi_model.specs.Scanned.{Scanned}
 use Rattle.cm_machine_model.specs.State.{Passage, State, table_at}
 use Rattle.cm_machine_parts.specs.States.{handles_in, passage_of, state_of}
 use Rattle.cm_machine_parts.specs.declared.state.State.{State as CodedState}
+use Rattle.cm_machine_parts.specs.declared.passing.Passing.{Passing}
+use Rattle.cm_machine_calls.specs.Lifting.{passage_in}
 use Rattle.cm_machine_calls.proofs.Pairs.{set_back}
 
 pub handles_at : (ts : List TableState) (i : ℕ) (t : TableState) → i < length ts → t ≡ get_or ts i t → table_at (handles_in ts) i ≡ t.handles
@@ -28,6 +30,18 @@ same_state s ms ts o memories tables passage =
     ap {B = State} (λ (x : List (List ℕ)). record s { memories = x; tables = ts; passage = o }) memories
     ∙ ap {B = State} (λ (x : List Handles). record s { tables = x; passage = o }) tables
     ∙ ap {B = State} (λ (x : Option Passage). record s { passage = x }) passage
+
+-- nothing is on its way where no value is kept
+pub none_when : (p : Passing) → p.scan.has_value ≡ false → passage_of p ≡ None
+none_when p none = ap (λ (b : Bool). if b then Some (passage_in p.slots p.scan) else None) none
+
+-- the state is as it was where handles are, and nothing was on its way and nothing is
+pub none_lifted : (s : CodedState) (i : ℕ) (t : TableState) (k : Scanned) → t.handles ≡ table_at (handles_in s.tables.items) i → s.passing.scan.has_value ≡ false → k.has_value ≡ false
+    → ◌≡◌ {A = State} (record (state_of s) { tables = handles_in (slice_set s.tables.items i t); passage = passage_of (record s.passing { scan = k }) }) (state_of s)
+none_lifted s i t k handles idle none =
+    same_state (state_of s) s.memories (handles_in (slice_set s.tables.items i t)) (passage_of (record s.passing { scan = k })) refl
+    (set_handles s.tables.items i t ∙ ap (slice_set (handles_in s.tables.items) i) handles ∙ set_back (handles_in s.tables.items) i no_handles)
+    (none_when (record s.passing { scan = k }) none ∙ sym (none_when s.passing idle))
 
 -- the state is as it was where memories and handles are, and numbers alone may have changed of what
 -- is on its way

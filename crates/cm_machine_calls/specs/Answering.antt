@@ -16,7 +16,7 @@ use Rattle.cm_machine_calls.specs.Going.{passage_now}
 -- a value is on its way, these answers are those to the first of its requests, and this one is next
 pub record CanAnswer (s : CodedState) (rs : List Request) (answers : List ℕ) (r : Request) : Type 0
   where
-    pub passes : s.passing.is_on_its_way ≡ true
+    pub passes : s.passing.scan.has_value ≡ true
     pub all : all_requests s.passing.scan.parts ≡ rs
     pub has : HasAnswers rs answers (passage_now s)
     pub next : slice_get rs (length answers) ≡ Some r
@@ -25,7 +25,7 @@ pub record CanAnswer (s : CodedState) (rs : List Request) (answers : List ℕ) (
 pub record KeepsAnswer (old new : CodedState) (rs : List Request) (answers : List ℕ) (r : Request)
     (receiver at : ℕ) : Type 0 where
   pub is : state_of new ≡ record (state_of old) { passage = Some (passage_now new) }
-  pub passes : new.passing.is_on_its_way ≡ true
+  pub passes : new.passing.scan.has_value ≡ true
   pub kept : IsAnswered rs (passage_now old) at (passage_now new)
   pub has : HasAnswers rs (answers ++ at ∷ []) (passage_now new)
   pub all : all_requests new.passing.scan.parts ≡ rs

@@ -53,7 +53,7 @@ pub record IsUnderWay (plan : Plan) (s : CodedState) (l : Link) (way : Way) (cal
       ≡ record { instance = l.instance; purpose = purpose.Call call } ∷ below
   pub few : length s.stack.frames ≤ MAX_FRAMES
   pub places : length s.stack.borrows ≡ MAX_FRAMES
-  pub passes : s.passing.is_on_its_way ≡ true
+  pub passes : s.passing.scan.has_value ≡ true
   pub encoded : IsEncoded l way s.passing
   pub bytes : AreBytes (memory_at s.memories (giver_of way l call))
   pub carried : Carries (memory_at s.memories (giver_of way l call)) l way (passage_now s) v

@@ -38,7 +38,8 @@ fn are_bytes(memory: &[u8])
 /// `kept`; the handles that are owned go out of the table, and those that are borrowed are lent.
 ///
 /// Else the answer is the trap of the first thing in reading order that is wrong, or
-/// `EngineMemory`, where the values may have parts or handles; and the table is as it was.
+/// `EngineMemory`, where the values may have parts or handles; the table is as it was, and
+/// nothing is kept.
 pub(crate) fn scan_flat_values(
     alloc: Global,
     kept: &mut Scan,
@@ -55,6 +56,8 @@ pub(crate) fn scan_flat_values(
         → MatchResult result
         (λ _. IsSeen w l (way_of way) slots.now table.new.handles kept.new)
         (λ t. StopsLift w l (way_of way) slots.now t) }
+    ensures value { OnOk result (kept.new.has_value ≡ true) }
+    ensures none { OnErr result (kept.new.has_value ≡ false) }
     ensures unchanged { OnErr result (table.new ≡ table.old) }
 {
     one_copied_call();
@@ -94,12 +97,12 @@ pub(crate) fn lift_flat_values(
     requires memory { giver < length state.old.memories }
     requires lends { LendsBelow (2 ^ 100) (table_at (state_of state.old).tables giver) }
     requires few { length slots.now ≤ MAX_FLAT_PARAMS }
-    requires idle { state.old.passing.is_on_its_way ≡ false }
+    requires idle { state.old.passing.scan.has_value ≡ false }
     ensures lifts { (l : RulesLink) (call : ℕ) → IsLinkOf l link.now
         → LiftsOrStops state.old state.new l (way_of way) giver call place slots.now result }
     ensures encoded { (l : RulesLink) → IsLinkOf l link.now
         → OnOk result (IsEncoded l (way_of way) state.new.passing) }
-    ensures passes { OnOk result (state.new.passing.is_on_its_way ≡ true) }
+    ensures passes { OnOk result (state.new.passing.scan.has_value ≡ true) }
     ensures stack { state.new.stack ≡ state.old.stack }
     ensures unchanged { OnErr result (state_of state.new ≡ state_of state.old) }
 {
@@ -116,7 +119,6 @@ pub(crate) fn lift_flat_values(
     let travelling = Place::Travelling { frame: place };
     put_owners(&mut state.owners, state.passing.scan.handles(), travelling);
     state.passing.slots = Flat::from_slice(slots);
-    state.passing.is_on_its_way = true;
     Ok(())
 }
 

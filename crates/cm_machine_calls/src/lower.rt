@@ -187,7 +187,6 @@ fn move_to_receiver(
     ensures stack { state.new.stack ≡ state.old.stack }
     ensures lends { state.new.lends ≡ state.old.lends }
     ensures slots { state.new.passing.slots ≡ state.old.passing.slots }
-    ensures handles { state.new.passing.scan.handles ≡ state.old.passing.scan.handles }
     ensures unchanged { OnErr result (state_of state.new ≡ state_of state.old) }
 {
     records_ask_for_parts();
@@ -214,27 +213,24 @@ fn move_to_receiver(
         to.instance,
         scan.numbers(),
     );
-    state.passing.is_on_its_way = false;
+    state.passing.scan.clear();
     Ok(())
 }
 
-/// Counts the handles of the value on its way that its receiver's table got borrowed for the call,
-/// which is their borrow scope (CanonicalABI.md, `lower_borrow`, `borrow_scope.num_borrows`).
-fn count_borrows(state: &mut State, to: Receiver)
+/// Counts so many handles more that the receiver's table got borrowed for the call, which is their
+/// borrow scope (CanonicalABI.md, `lower_borrow`, `borrow_scope.num_borrows`).
+fn count_borrows(state: &mut State, to: Receiver, borrowed: usize)
     requires place { to.call < MAX_FRAMES }
-    requires fits { slice_index state.old.stack.borrows to.call
-        + borrowed_count to state.old.passing.scan.handles ≤ 65536 }
+    requires fits { slice_index state.old.stack.borrows to.call + borrowed ≤ 65536 }
     ensures borrows { state.new.stack.borrows ≡ slice_set state.old.stack.borrows to.call
-        (slice_index state.old.stack.borrows to.call
-        + borrowed_count to state.old.passing.scan.handles) }
+        (slice_index state.old.stack.borrows to.call + borrowed) }
     ensures frames { state.new.stack.frames ≡ state.old.stack.frames }
     ensures passing { state.new.passing ≡ state.old.passing }
     ensures lends { state.new.lends ≡ state.old.lends }
     ensures same { state_of state.new ≡ state_of state.old }
 {
     let place = to.call as usize;
-    let borrowed = borrowed_count(to, state.passing.scan.handles()) as u32;
-    let count = state.stack.borrows(place) + borrowed;
+    let count = state.stack.borrows(place) + borrowed as u32;
     state.stack.set_borrows(place, count);
 }
 
@@ -262,10 +258,11 @@ pub(crate) fn lower_flat_values(
 {
     borrows_are_counted();
     tables_change_in_one_place();
+    let borrowed = borrowed_count(to, state.passing.scan.handles());
     match move_to_receiver(alloc, state, link, way, giver, to, values) {
         Ok(()) => {}
         Err(trap) => return Err(trap),
     }
-    count_borrows(state, to);
+    count_borrows(state, to, borrowed);
     Ok(())
 }

@@ -7,7 +7,7 @@ use Rattle.cm_machine_parts.specs.declared.state.State.{State as CodedState}
 
 -- what is on its way, if something is
 abbrev pub passage_of : Passing → Option Passage
-passage_of p = if p.is_on_its_way then Some (record {
+passage_of p = if p.scan.has_value then Some (record {
   slots = p.slots;
   records = p.scan.parts.records;
   places = p.scan.parts.places;

@@ -6,25 +6,23 @@ use cm_abi_copy::Scan;
 use cm_machine_model::Flat;
 use std::alloc::Global;
 
-/// What is on its way in the call on top. What is kept of it stays where it is when it has arrived,
-/// so that the next call finds the room.
+/// What is on its way in the call on top. Nothing is kept of it when it has arrived; the lists
+/// keep their room for the next call.
 #[derive(Drop)]
 pub struct Passing {
-    /// Whether a value is on its way: if not, nothing else here counts.
-    pub is_on_its_way: bool,
-    /// The core values that were scanned.
+    /// The core values that were scanned last.
     pub slots: Flat,
-    /// What is kept of the value that they denote.
+    /// What is kept of the value that they denote while it is on its way: it has a value then, and
+    /// none else.
     pub scan: Scan,
 }
 
 impl Passing {
     /// Nothing is on its way. It takes no memory before something is, and then from `alloc`.
     pub fn new(alloc: Global) -> Passing
-        ensures { result.is_on_its_way ≡ false }
+        ensures { result.scan.has_value ≡ false }
     {
         Passing {
-            is_on_its_way: false,
             slots: Flat::new(),
             scan: Scan::new(alloc),
         }

@@ -81,5 +81,5 @@ pub fn close_all(state: &mut State)
     close_frames(&mut state.stack, &mut state.closed, &mut state.tables);
     abandon(&mut state.owners);
     state.lends.truncate(0);
-    state.passing.is_on_its_way = false;
+    state.passing.scan.clear();
 }

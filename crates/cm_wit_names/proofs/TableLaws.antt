@@ -16,17 +16,17 @@ use Rattle.std.specs.BTreeMap.{is_at}
 use Rattle.std.specs.Map.{lookup}
 use Rattle.std.specs.Option.{option_and_then}
 use Rattle.std.specs.Ordering.{nat_cmp}
-use Rattle.cm_names.specs.KeyTables.{Table, look_up, or_else, under}
+use Rattle.cm_names.specs.KeyTables.{KeyTable, look_up, or_else, under}
 use Rattle.cm_wit_names.specs.Table.{IsTableOf, is_key, Notes}
 
 -- What is known is what the table has, or else the first among the mentions to come.
-abbrev pub SeeksIn : List Mention → ℕ → List Mention → Table → Type 0
+abbrev pub SeeksIn : List Mention → ℕ → List Mention → KeyTable → Type 0
 SeeksIn ms i rest table = (n : ℕ) (text : List ℕ) → known_at ms n text ≡ or_else (look_up table n text) (position_from (is_known_as n text) i rest)
 
-pub record Seeks (mentions : List code.Mention) (i : ℕ) (table : Table) : Type 0 where
+pub record Seeks (mentions : List code.Mention) (i : ℕ) (table : KeyTable) : Type 0 where
   pub is : SeeksIn (map mention_view mentions) i (map mention_view (drop i mentions)) table
 
-pub seeks_none : (mentions : List code.Mention) (table : Table) → table.entries ≡ [] → Seeks mentions 0 table
+pub seeks_none : (mentions : List code.Mention) (table : KeyTable) → table.entries ≡ [] → Seeks mentions 0 table
 seeks_none mentions table e = record {
   is = λ n text. ap (λ es. or_else (option_and_then (under text) (lookup (is_at (nat_cmp n)) es)) (position_from (is_known_as n text) 0 (map mention_view mentions))) (sym e);
 }
@@ -66,7 +66,7 @@ next_rest mentions i m lt is = next_element mention_view mentions i m lt is
 key_is : (n : ℕ) (text : List ℕ) (m : code.Mention) → is_known_as n text (mention_view m) ≡ is_key n text (option_map (λ k. (k.0, k.1.now)) m.known)
 key_is n text m = key_in n text m.known
 
-pub seeks_step : (mentions : List code.Mention) (i : ℕ) (m : code.Mention) (before after : Table) → i < length mentions → m ≡ get_or mentions i m → Seeks mentions i before → Notes (option_map (λ k. (k.0, k.1.now)) m.known) i before after → Seeks mentions (i + 1) after
+pub seeks_step : (mentions : List code.Mention) (i : ℕ) (m : code.Mention) (before after : KeyTable) → i < length mentions → m ≡ get_or mentions i m → Seeks mentions i before → Notes (option_map (λ k. (k.0, k.1.now)) m.known) i before after → Seeks mentions (i + 1) after
 seeks_step mentions i m before after lt e s f = record {
   is = λ n text.
       s.is n text
@@ -76,7 +76,7 @@ seeks_step mentions i m before after lt e s f = record {
       ∙ ap (λ (o : Option ℕ). or_else o (position_from (is_known_as n text) (i + 1) (map mention_view (drop (i + 1) mentions)))) (sym (f n text)))));
 }
 
-pub seeks_all : (mentions : List code.Mention) (i : ℕ) (table : Table) → length mentions ≤ i → Seeks mentions i table → IsTableOf (map mention_view mentions) table
+pub seeks_all : (mentions : List code.Mention) (i : ℕ) (table : KeyTable) → length mentions ≤ i → Seeks mentions i table → IsTableOf (map mention_view mentions) table
 seeks_all mentions i table le s n text =
     sym (s.is n text ∙ (ap (λ (rest : List code.Mention). or_else (look_up table n text) (position_from (is_known_as n text) i (map mention_view rest))) (drop_all i mentions le) ∙ or_none (look_up table n text)))
 
@@ -84,5 +84,5 @@ pub ruleset table_laws = (seeks_none, seeks_step, seeks_all)
 
 -- ---- one name
 
-pub notes_nothing : (index : ℕ) (table : Table) → Notes None index table table
+pub notes_nothing : (index : ℕ) (table : KeyTable) → Notes None index table table
 notes_nothing index table n text = sym (or_none (look_up table n text))

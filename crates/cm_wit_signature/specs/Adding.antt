@@ -5,13 +5,17 @@ use Rattle.std.specs.Option.{option_map}
 use Rattle.cm_types.specs.Signatures.{NamedExtern}
 use Rattle.cm_wit_worlds.specs.Interfaces.{PlacedInterface, PlacedWorld}
 use Rattle.cm_wit_meanings.specs.declared.fault.MeaningFault.{MeaningFault}
-use Rattle.cm_wit_items.specs.ItemFaults.{IsFaultWith}
+use Rattle.cm_wit_items.specs.ItemFaults.{AreWithin, IsFaultWith}
 use Rattle.cm_wit_items.specs.Functions.{extern_funcs}
 use Rattle.cm_wit_items.specs.Signatures.{Scopes, externs_from}
 
 -- these behind those, where they are there
 abbrev pub behind : List NamedExtern → Option (List NamedExtern) → Option (List NamedExtern)
 behind front others = option_map (λ es. front ++ es) others
+
+-- the functions of imports or exports are within the limits of types
+abbrev pub AreExternsWithin : List NamedExtern → Type 0
+AreExternsWithin es = AreWithin (flat_map extern_funcs es)
 
 -- Why imports or exports cannot be had.
 abbrev pub AreExternsFault : Option (List NamedExtern) → MeaningFault → Type 0

@@ -13,7 +13,7 @@ ghost use Rattle.cm_wit_items.specs.Functions.{extern_funcs};
 ghost use Rattle.cm_wit_items.specs.Own.{AreOwn};
 ghost use Rattle.cm_wit_items.specs.Signatures.{externs_from, func_extern};
 ghost use Rattle.cm_wit_items.specs.Signatures.{interface_extern};
-ghost use Rattle.cm_wit_signature.specs.Adding.{Adds, AreExternsFault, behind};
+ghost use Rattle.cm_wit_signature.specs.Adding.{Adds, AreExternsFault, AreExternsWithin, behind};
 ghost use Rattle.cm_wit_signature.specs.PackageFronts.{HavePackages};
 ghost use Rattle.cm_wit_signature.specs.PartViews.{are_made_there, extern_made, externs_made};
 ghost use Rattle.cm_wit_signature.specs.PartViews.{files_in, interfaces_in, own_func_view};
@@ -110,15 +110,14 @@ fn add_instance(
     requires packages { HavePackages (files_in parts.now) (interfaces_in parts.now) }
     requires number { number < length parts.now.sources.interfaces.now }
     requires there { are_made_there types.old out.old.items ≡ true }
-    requires within { AreWithin
-        (flat_map extern_funcs (externs_made parts.now types.old out.old.items)) }
+    requires within { AreExternsWithin (externs_made parts.now types.old out.old.items) }
     ensures adds { OnOk result (Adds (interfaces_in parts.now) (world_in parts.now)
         (scopes_in (types_of types.old) parts.now) parts.now.own number list (list + 1)
         (externs_made parts.now types.old out.old.items)
         (externs_made parts.now types.new out.new.items)) }
     ensures there { OnOk result (are_made_there types.new out.new.items ≡ true) }
     ensures within { OnOk result
-        (AreWithin (flat_map extern_funcs (externs_made parts.now types.new out.new.items))) }
+        (AreExternsWithin (externs_made parts.now types.new out.new.items)) }
     ensures fault { (ns : List ℕ) → IfErr result (AreExternsFault
         (behind (externs_made parts.now types.old out.old.items)
         (externs_from (interfaces_in parts.now) (world_in parts.now)
@@ -146,15 +145,14 @@ fn add_own_func(
     requires placed { ArePlaced (length (types_of types.old)) parts.now.table.now }
     requires number { length parts.now.sources.interfaces.now ≤ number }
     requires there { are_made_there types.old out.old.items ≡ true }
-    requires within { AreWithin
-        (flat_map extern_funcs (externs_made parts.now types.old out.old.items)) }
+    requires within { AreExternsWithin (externs_made parts.now types.old out.old.items) }
     ensures adds { OnOk result (Adds (interfaces_in parts.now) (world_in parts.now)
         (scopes_in (types_of types.old) parts.now) parts.now.own number list list
         (externs_made parts.now types.old out.old.items)
         (externs_made parts.now types.new out.new.items)) }
     ensures there { OnOk result (are_made_there types.new out.new.items ≡ true) }
     ensures within { OnOk result
-        (AreWithin (flat_map extern_funcs (externs_made parts.now types.new out.new.items))) }
+        (AreExternsWithin (externs_made parts.now types.new out.new.items)) }
     ensures fault { (ns : List ℕ) → IfErr result (AreExternsFault
         (behind (externs_made parts.now types.old out.old.items)
         (externs_from (interfaces_in parts.now) (world_in parts.now)
@@ -187,8 +185,7 @@ fn add_number(
     requires packages { HavePackages (files_in parts.now) (interfaces_in parts.now) }
     requires list { list + 1 < 2 ^ 64 }
     requires there { are_made_there types.old out.old.items ≡ true }
-    requires within { AreWithin
-        (flat_map extern_funcs (externs_made parts.now types.old out.old.items)) }
+    requires within { AreExternsWithin (externs_made parts.now types.old out.old.items) }
     ensures adds { IfOk result (λ next. Adds (interfaces_in parts.now) (world_in parts.now)
         (scopes_in (types_of types.old) parts.now) parts.now.own number list next
         (externs_made parts.now types.old out.old.items)
@@ -196,7 +193,7 @@ fn add_number(
     ensures next { IfOk result (λ next. next ≤ list + 1) }
     ensures there { OnOk result (are_made_there types.new out.new.items ≡ true) }
     ensures within { OnOk result
-        (AreWithin (flat_map extern_funcs (externs_made parts.now types.new out.new.items))) }
+        (AreExternsWithin (externs_made parts.now types.new out.new.items)) }
     ensures fault { (ns : List ℕ) → IfErr result (AreExternsFault
         (behind (externs_made parts.now types.old out.old.items)
         (externs_from (interfaces_in parts.now) (world_in parts.now)

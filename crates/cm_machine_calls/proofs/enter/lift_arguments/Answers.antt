@@ -61,7 +61,7 @@ lift_flat_values-requires-clause-idle c =
     let x = c.requires.may in
     let s = c.args.state.now in
     let runs = x.3.called.runs in
-    not_passing s.passing.is_on_its_way (passage_now s) (idle_at x.0 (state_of s) s.stack.frames c.args.top.now x.3.called.on_top runs.valid.stack runs.valid.passes x.3.leaves)
+    not_passing s.passing.scan.has_value (passage_now s) (idle_at x.0 (state_of s) s.stack.frames c.args.top.now x.3.called.on_top runs.valid.stack runs.valid.passes x.3.leaves)
 
 pub returns-in-Err : goal.returns-in-Err
 returns-in-Err c = record {
@@ -129,7 +129,7 @@ returns-in-Ok-lend c = record {
         is = is;
         under = subst (λ (y : Call). IsUnderWay plan new l params y x.v []) (sym call)
             (args_under plan old new i c.args.func l args x.v c.args.top.now runs called.on_top (sym c.actor-caller.ensures) may.leaves may.room reaches there is scanned
-            (ap (λ (p : Passing). p.is_on_its_way) c.lend.ensures.passing ∙ c.in-Ok.ensures.passes)
+            (ap (λ (p : Passing). p.scan.has_value) c.lend.ensures.passing ∙ c.in-Ok.ensures.passes)
             (subst (λ (p : Passing). IsEncoded l params p) (sym c.lend.ensures.passing) (c.in-Ok.ensures.encoded l called.link_is))
             (subst (λ (t : List Handles). IsSoundHandles (table_at t i)) (sym tables) x.sound)
             c.len-place.ensures.numbers

@@ -56,7 +56,7 @@ lift_flat_values-requires-clause-idle c =
     let call = c.args.call.now in
     let passes : PassesFor x.0 (state_of s) y.top.purpose = passes_at x.0 (state_of s) s.stack.frames y.top y.on_top y.runs.valid.passes in
     let in_call : PassesIn call.phase (state_of s) x.1 call (state_of s).passage = subst (λ (q : Purpose). PassesFor x.0 (state_of s) q) y.is_call passes x.1 y.reaches in
-    not_passing s.passing.is_on_its_way (passage_now s) (subst (λ (q : Phase). PassesIn q (state_of s) x.1 call (state_of s).passage) c.requires.body in_call)
+    not_passing s.passing.scan.has_value (passage_now s) (subst (λ (q : Phase). PassesIn q (state_of s) x.1 call (state_of s).passage) c.requires.body in_call)
 
 pub put_phase-requires : goal.put_phase-requires
 put_phase-requires c =
@@ -101,7 +101,7 @@ returns-clause-lifts c = λ plan l y.
       scanned = scanned;
       is = is;
       under = result_under plan old new l call given x.v y.top y.runs y.on_top y.is_call y.reaches is lends scanned
-          (ap (λ (p : Passing). p.is_on_its_way) c.put_phase.ensures.passing ∙ c.in-Ok.ensures.passes)
+          (ap (λ (p : Passing). p.scan.has_value) c.put_phase.ensures.passing ∙ c.in-Ok.ensures.passes)
           (subst (λ (p : Passing). IsEncoded l results p) (sym c.put_phase.ensures.passing) (c.in-Ok.ensures.encoded l y.link_is))
           (subst (λ (t : List Handles). IsSoundHandles (table_at t l.instance)) (sym tables) x.sound)
           c.len.ensures.numbers

@@ -1,4 +1,4 @@
-use Rattle.std.proofs.Common.{◌≡◌, ◌<◌, ◌∙◌, ◌+◌, ap, sym, subst, List, ◌∷◌, length, arith}
+use Rattle.std.proofs.Common.{◌≡◌, ◌<◌, ◌∙◌, ◌+◌, ap, sym, subst, ℕ, List, ◌∷◌, length, arith}
 use Rattle.std.specs.Prelude.{slice_index, slice_set}
 use Rattle.cm_handles.specs.Handles.{Handles}
 use Rattle.cm_abi_model.specs.Giving.{borrowed_count}
@@ -7,7 +7,6 @@ use Rattle.cm_abi_model.specs.declared.receiver.Receiver.{Receiver}
 use Rattle.cm_machine_model.specs.declared.frame.Frame.{Frame}
 use Rattle.cm_machine_model.specs.declared.frame.Purpose.TheVariants as purpose
 use Rattle.cm_machine_model.specs.State.{State}
-use Rattle.cm_abi_model.specs.Receives.{HandleLeaf}
 use Rattle.cm_machine_parts.specs.Kept.{AreBorrowsCounted}
 use Rattle.cm_machine_parts.specs.Lends.{AreLentAtLeast}
 use Rattle.cm_machine_parts.specs.Stacks.{CountedFrames}
@@ -35,7 +34,8 @@ count_borrows-requires-clause-fits c =
       arith,
       few_handed c.borrows_are_counted.ensures.add c.tables_change_in_one_place.ensures.add x.0 s x.1 (way_of c.args.way) x.2 x.3 x.4 c.args.giver c.args.to (state_of c.move_to_receiver.new.state) c.move_to_receiver.new.values h handed s.stack.borrows counted,
       ap (λ (k : CountedFrames). slice_index k.borrows c.args.to.call) c.move_to_receiver.ensures.stack,
-      ap (borrowed_count c.args.to) c.move_to_receiver.ensures.handles,
+      c.borrowed_count-borrowed.ensures.count,
+      ap (borrowed_count c.args.to) c.handles.ensures,
     )
 
 pub returns-clause-hands : goal.returns-clause-hands
@@ -56,8 +56,8 @@ returns-clause-counted c =
     let base = counted_handed c.borrows_are_counted.ensures.add c.tables_change_in_one_place.ensures.add x.0 s x.1 (way_of c.args.way) x.2 x.3 x.4 c.args.giver to (state_of mid) c.move_to_receiver.new.values h handed s.stack.borrows room counted in
     let borrows : end.stack.borrows ≡ slice_set s.stack.borrows to.call (slice_index s.stack.borrows to.call + borrowed_count to s.passing.scan.handles) =
     c.count_borrows.ensures.borrows
-    ∙ ap (λ (k : CountedFrames). slice_set k.borrows to.call (slice_index k.borrows to.call + borrowed_count to mid.passing.scan.handles)) c.move_to_receiver.ensures.stack
-    ∙ ap (λ (ls : List HandleLeaf). slice_set s.stack.borrows to.call (slice_index s.stack.borrows to.call + borrowed_count to ls)) c.move_to_receiver.ensures.handles in
+    ∙ ap (λ (k : CountedFrames). slice_set k.borrows to.call (slice_index k.borrows to.call + c.borrowed_count-borrowed.result)) c.move_to_receiver.ensures.stack
+    ∙ ap (λ (n : ℕ). slice_set s.stack.borrows to.call (slice_index s.stack.borrows to.call + n)) (c.borrowed_count-borrowed.ensures.count ∙ ap (borrowed_count to) c.handles.ensures) in
     let frames = c.count_borrows.ensures.frames ∙ ap (λ (k : CountedFrames). k.frames) c.move_to_receiver.ensures.stack ∙ h.on.under.stack in
     let tables = ap (λ (y : State). y.tables) c.count_borrows.ensures.same in
     counted_as (slice_set s.stack.borrows to.call (slice_index s.stack.borrows to.call + borrowed_count to s.passing.scan.handles)) end.stack.borrows

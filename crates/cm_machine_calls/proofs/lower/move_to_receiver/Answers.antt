@@ -1,5 +1,5 @@
 use Rattle.std.proofs.Common.{◌≡◌, ◌<◌, ◌∙◌, ap, sym, subst, ℕ, List, length, arith}
-use Rattle.std.specs.Prelude.{slice_set}
+use Rattle.std.specs.Prelude.{Option, slice_set}
 use Rattle.cm_handles.specs.Handles.{Handles, no_handles}
 use Rattle.cm_abi_model.specs.Copies.{IsFaultOfCopying, handles_of_values}
 use Rattle.cm_abi_model.specs.Giving.{Gives}
@@ -11,7 +11,7 @@ use Rattle.cm_abi_model.specs.declared.receiver.Receiver.{Receiver}
 use Rattle.cm_machine_model.specs.declared.event.Trap.{Trap}
 use Rattle.cm_machine_model.specs.Memories.{memory_at}
 use Rattle.cm_machine_model.specs.Plan.{types_of}
-use Rattle.cm_machine_model.specs.State.{State, table_at}
+use Rattle.cm_machine_model.specs.State.{Passage, State, table_at}
 use Rattle.cm_machine_model.specs.Step.{giver_of, owners_given}
 use Rattle.cm_machine_parts.specs.States.{handles_in, state_of}
 use Rattle.cm_machine_calls.specs.Going.{passage_now}
@@ -20,7 +20,7 @@ use Rattle.cm_machine_calls.specs.Handing.{StopsHanding}
 use Rattle.cm_machine_calls.proofs.GoingLaws.{can_copy, few_kinds, giver_there, handed_same, receiver_there, sides_apart}
 use Rattle.cm_machine_calls.proofs.HandingLaws.{all_are, apart_is, handed_is, numbers_are, room_is, stopped, table_is}
 use Rattle.cm_machine_calls.proofs.Pairs.{at_same}
-use Rattle.cm_machine_calls.proofs.Tables.{handles_at, handles_length, set_handles, unchanged_by}
+use Rattle.cm_machine_calls.proofs.Tables.{handles_at, handles_length, none_when, set_handles, unchanged_by}
 use Rattle.cm_machine_calls.proofs.lower.move_to_receiver.Goals as goal
 
 pub index_mut-table-requires : goal.index_mut-table-requires
@@ -122,7 +122,9 @@ returns-clause-moves c = λ plan l call v answers is h.
       room = room_is s l way to slots scan v answers target all has leaves got.memory new values numbers inside also copied;
       memory = got.memory;
       handed = handed_is s l way to slots scan v answers target all has leaves got.memory new values numbers inside also copied;
-      is = handed_same s to (passage_now state) got.memory c.copy_between.new.memories (handles_in (slice_set state.tables.items to.instance c.copy_between.new.table)) c.place_owned.new.owners.items got.memories
+      is = ap {B = State} (λ (o : Option Passage). record s { memories = c.copy_between.new.memories; tables = handles_in (slice_set state.tables.items to.instance c.copy_between.new.table); owners = c.place_owned.new.owners.items; passage = o })
+          (none_when (record state.passing { scan = c.clear.new.self }) (ap (λ (k : Scanned). k.has_value) c.clear.ensures))
+          ∙ handed_same s to (passage_now state) got.memory c.copy_between.new.memories (handles_in (slice_set state.tables.items to.instance c.copy_between.new.table)) c.place_owned.new.owners.items got.memories
           (tables ∙ ap (slice_set (handles_in state.tables.items) to.instance) is_table) owners;
       numbers = numbers;
       gives = subst (λ (t : Handles). Gives to (table_at s.tables to.instance) t scan.handles numbers)

@@ -1,5 +1,5 @@
 use Rattle.std.proofs.Common.{◌≡◌, ◌∙◌, ◌++◌, [], ◌∷◌, ap, sym, subst, List, Some, None, length, arith}
-use Rattle.std.specs.Prelude.{if◌then◌else◌, Bool, slice_get}
+use Rattle.std.specs.Prelude.{if◌then◌else◌, Bool, slice_get, true}
 use Rattle.cm_abi_model.specs.Answered.{Requesting, all_requests, next_of, with_old}
 use Rattle.cm_abi_model.specs.Answering.{answer_fault}
 use Rattle.cm_abi_model.specs.Scanned.{Scanned}
@@ -32,12 +32,13 @@ returns-in-Ok-clause-keeps c = λ rs answers r can.
     let new = c.answer.new.self in
     let slots = c.args.state.now.passing.slots in
     let only = c.answer.ensures.only in
+    let has_value : new.has_value ≡ true = ap (λ (k : Scanned). k.has_value) only.kept ∙ can.passes in
     let there = answered_is slots old rs answers can.all (omega (arith, few_answers rs answers r can.next)) can.has in
     let all = asked_stays old new only ∙ can.all in
     let next = subst (λ (x : List Request). slice_get x (length answers) ≡ Some r) (sym can.all) can.next in
     record {
-      is = ap {B = State} (λ (b : Bool). record (state_of c.args.state.now) { passage = if b then Some (passage_in slots new) else None }) can.passes;
-      passes = can.passes;
+      is = ap {B = State} (λ (b : Bool). record (state_of c.args.state.now) { passage = if b then Some (passage_in slots new) else None }) has_value;
+      passes = has_value;
       kept = passage_answered slots old new rs answers r c.args.at can.all can.has can.next only c.in-Ok.ensures.kept;
       has = has_answers slots new rs (answers ++ c.args.at ∷ []) all (c.in-Ok.ensures.kept answers there);
       all = all;
