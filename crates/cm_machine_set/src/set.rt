@@ -6,7 +6,6 @@ ghost use Rattle.std.specs.Prelude.{◌==◌, false, filter, true, vec_capacity}
 ghost use Rattle.std.specs.Option.{option_copied, option_map};
 ghost use Rattle.std.specs.Result.{result_err};
 ghost use Rattle.cm_machine_model.specs.declared.event.Event.TheVariants as event;
-ghost use Rattle.cm_machine_model.specs.declared.event.Trap.{Trap};
 ghost use Rattle.cm_abi_model.specs.Bytes.{AreBytes};
 ghost use Rattle.cm_abi_model.specs.HandleLeaves.{leaves_of, owned_in};
 ghost use Rattle.cm_machine_model.specs.History.{WritesBytes, begins, moves};
@@ -17,7 +16,7 @@ ghost use Rattle.cm_machine_model.specs.Stack.{actor, top_of};
 ghost use Rattle.cm_machine_model.specs.State.{are_page_counts};
 ghost use Rattle.cm_machine_model.specs.Step.{Step};
 ghost use Rattle.cm_machine_model.specs.Valid.{IsValidState};
-ghost use Rattle.cm_machine_model.specs.Work.{IsKeptOf, work_of};
+ghost use Rattle.cm_machine_model.specs.Work.{work_of};
 ghost use Rattle.cm_machine_links.specs.Planned.{ArePlanned};
 ghost use Rattle.cm_machine_parts.specs.Kept.{Runs};
 ghost use Rattle.cm_machine_parts.specs.Rows.{event_of};
@@ -61,11 +60,7 @@ impl Model for Set {
     ghost use Rattle.cm_machine_parts.specs.Kept.{Runs};
     ghost use Rattle.cm_machine_parts.specs.States.{state_of};
 
-    ghost view = { λ s. record {
-      links = s.links;
-      state = state_of s.state;
-      kept = s.state.passing.scan;
-    } };
+    ghost view = { λ s. record { links = s.links; state = state_of s.state } };
 
     ghost invariant = { λ s. (plan : Plan) × ArePlanned plan s.links × Runs plan s.state };
 }
@@ -89,13 +84,6 @@ fn owned_count(handles: &[HandleLeaf]) -> usize
     ensures { result ≡ length (owned_in (leaves_of handles.now)) }
 {
     count_owned(handles)
-}
-
-/// What is kept in a set's lists is what is on its way.
-fn what_is_kept(state: &State)
-    ensures { IsKeptOf (state_of state.now).passage state.now.passing.scan }
-{
-    let _value = state.passing.scan.has_value();
 }
 
 /// How many of these lends are to the call at a place of the stack.
@@ -176,29 +164,14 @@ fn step_at(
         → Runs plan state.new }
     ensures goes_on { is_last (event_of result values.new) ≡ false
         → 0 < length state.new.stack.frames }
-    ensures none { (t : Trap) → result ≡ Outcome.Trapped t → values.new ≡ [] }
 {
     machine_stays_valid();
     match advance(alloc, links, state, top, made, values) {
-        Ok(outcome) => {
-            forget_behind_trap(outcome, values);
-            outcome
-        }
+        Ok(outcome) => outcome,
         Err(trap) => {
             close_all(state);
-            *values = Flat::new();
             Outcome::Trapped(trap)
         }
-    }
-}
-
-/// Behind a trap there are no core values.
-fn forget_behind_trap(outcome: Outcome, values: &mut Flat)
-    ensures event { event_of outcome values.new ≡ event_of outcome values.old }
-    ensures none { (t : Trap) → outcome ≡ Outcome.Trapped t → values.new ≡ [] }
-{
-    if let Outcome::Trapped(_) = outcome {
-        *values = Flat::new();
     }
 }
 
@@ -305,17 +278,19 @@ impl Set {
     }
 
     /// How much is kept of the topmost call: records of parts and resources of the value on its
-    /// way, and handles that are lent; all 0 where there is none. These are the lengths of the
-    /// lists that are kept. Takes no memory.
+    /// way, and handles that are lent; all 0 where there is none. Takes no memory.
     pub fn work(&self) -> Work
-        ensures work { result ≡ work_of self.now.state }
-        ensures records { result.records ≡ length self.now.kept.parts.records }
-        ensures handles { result.handles ≡ length (owned_in self.now.kept.handles) }
+        ensures { result ≡ work_of self.now.state }
     {
-        what_is_kept(&self.state);
         let passing = &self.state.passing;
-        let records = passing.scan.records().len();
-        let handles = owned_count(passing.scan.handles());
+        let (records, handles) = if passing.scan.has_value() {
+            (
+                passing.scan.records().len(),
+                owned_count(passing.scan.handles()),
+            )
+        } else {
+            (0, 0)
+        };
         let lends = match self.state.stack.top_call() {
             Some(place) => lend_count(self.state.lends.as_slice(), place),
             None => 0,
@@ -355,7 +330,7 @@ impl Set {
     }
 
     /// One move of the acting instance: what it leads to, with its core values in place of those
-    /// that were there; a trap leaves none.
+    /// that were there.
     ///
     /// Misuse: `Idle` where the stack is empty. State and values are then unchanged.
     pub fn step_in(&mut self, made: &Move, values: &mut Flat) -> Result<Outcome, Misuse>
@@ -370,8 +345,6 @@ impl Set {
             → 0 < length self.new.state.stack) }
         ensures planned { self.new.links ≡ self.old.links }
         ensures idle { IsErrOf result Misuse.Idle ↔ (self.old.state.stack ≡ []) }
-        ensures kept { OnOk result (IsKeptOf self.new.state.passage self.new.kept) }
-        ensures trapped { IfOk result (λ o. (t : Trap) → o ≡ Outcome.Trapped t → values.new ≡ []) }
         ensures only { IfErr result (λ m. m ≡ Misuse.Idle) }
         ensures err { OnErr result ((self.new ≡ self.old) × (values.new ≡ values.old)) }
     {
@@ -380,9 +353,7 @@ impl Set {
         };
         histories_are_valid();
         moves_write_bytes(made);
-        let outcome = step_at(self.alloc, &self.links, &mut self.state, &top, made, values);
-        what_is_kept(&self.state);
-        Ok(outcome)
+        Ok(step_at(self.alloc, &self.links, &mut self.state, &top, made, values))
     }
 
     /// One move of the acting instance, and the event that it leads to.
@@ -398,7 +369,6 @@ impl Set {
         ensures goes_on { IfOk result (λ e. is_last e ≡ false → 0 < length self.new.state.stack) }
         ensures planned { self.new.links ≡ self.old.links }
         ensures idle { IsErrOf result Misuse.Idle ↔ (self.old.state.stack ≡ []) }
-        ensures kept { OnOk result (IsKeptOf self.new.state.passage self.new.kept) }
         ensures only { IfErr result (λ m. m ≡ Misuse.Idle) }
         ensures err { OnErr result (self.new ≡ self.old) }
     {
