@@ -1,6 +1,6 @@
 //! Plays moves, each beside the event that it is to have, and marks those that are to take no
 //! memory: what they ask an allocator for stands between two marks on standard output. A reader of
-//! the marks who counts allocations, as `checks/memory` does, sees that there are none.
+//! the marks who counts allocations, as `checks/memory` does, sees whether there are any.
 //!
 //! A row of `moves.rows` is `file NAME HEX`, a component; `set PAGES.. of @NAME..`, which links
 //! components and makes a set; `MOVE`, a move as a script spells it, or `begin I`; `quiet MOVE`, a
