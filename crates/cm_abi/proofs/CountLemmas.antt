@@ -1,20 +1,17 @@
 -- How many parts and handles a value has, and how many places and numbers they are given.
-use Rattle.std.proofs.Common.{◌≡◌, ℕ, zero, suc, ◌*◌, Bool, true, false, List, [], ◌∷◌, ◌++◌, length, map, refl, ap, ◌∙◌, arith}
-use Rattle.std.specs.Prelude.{nat_lt, if◌then◌else◌}
+use Rattle.std.proofs.Common.{◌≡◌, ℕ, zero, suc, Bool, true, false, List, [], ◌∷◌, ◌++◌, length, map, refl, ap, ◌∙◌, arith}
 use Rattle.std.proofs.lemmas.List.{length-append}
 use Rattle.cm_types.specs.Types.{Ty, Fields, Cases, bool, signed, unsigned, char, string, list, fixed_list, fields, cases, flags, own, borrow, no_fields, field, no_cases, plain, carrying}
 use Rattle.cm_types.specs.Values.{Val, Vals, no_vals, val, truth, signed_number, number, scalar, text, elements, parts, bare, bearing, flag_set, handle, AllVals, HasType, HaveTypes, IsCarriedCase}
-use Rattle.cm_handles.specs.Handles.{Handles}
 use Rattle.cm_abi_model.specs.declared.encoding.StringEncoding.{StringEncoding}
 use Rattle.cm_abi_model.specs.declared.request.Request.{Request}
-use Rattle.cm_abi_model.specs.Parts.{Part, text_part, element_part, handle_count, handle_count_each}
-use Rattle.cm_abi_model.specs.Receives.{HandleLeaf, leaves_each, leaves_in, leaves_in_fields, leaves_in_payload}
-use Rattle.cm_abi_model.specs.Requests.{chain, read_charset, first_tag, growths, part_align, part_requests, part_sizes, shrunk, stored_charset, tags_behind, text_sizes}
-use Rattle.cm_abi_model.specs.Texts.{Charset, utf8, utf16, latin1}
+use Rattle.cm_abi_model.specs.Parts.{Part, handle_count, handle_count_each}
+use Rattle.cm_abi_model.specs.Receives.{leaves_each, leaves_in, leaves_in_fields, leaves_in_payload}
+use Rattle.cm_abi_model.specs.Requests.{chain, read_charset, first_tag, growths, part_align, part_requests, part_sizes, stored_charset, tags_behind}
 use Rattle.cm_abi_model.specs.Answering.{begins_part, places_of, regions_of}
 use Rattle.cm_abi_model.specs.declared.region.Region.{Region}
-use Rattle.cm_abi_model.specs.Giving.{added_for, numbers_given, with_added}
-use Rattle.cm_abi_model.specs.declared.receiver.Receiver.{Receiver}
+use Rattle.cm_lemmas.proofs.Lists.{Some1}
+use Rattle.cm_abi_model.proofs.RequestsLaws.{sizes_some, starts}
 
 -- ---- handles
 
@@ -55,10 +52,6 @@ mutual
   counted_payload (carrying l t cs) zero v h = handles_counted t v h
   counted_payload (carrying l t cs) (suc i) v h = counted_payload cs i v h
 
-pub numbers_counted : (to : Receiver) (t : Handles) (leaves : List HandleLeaf) → length (numbers_given to t leaves) ≡ length leaves
-numbers_counted to t [] = refl
-numbers_counted to t (leaf ∷ leaves) = ap suc (numbers_counted to (with_added t (added_for to leaf)) leaves)
-
 -- ---- parts
 
 length_map : (rs : List Region) → length (map (λ (r : Region). r.at) rs) ≡ length rs
@@ -78,39 +71,6 @@ one_part align r [] rest (a ∷ as') st len = record { behind = as'; are = rw st
 one_part align r (s ∷ ss) rest (a ∷ as') st len =
     let more = one_part align (record { chained = true; old_size = r.size; align = align; size = s }) ss rest as' st (omega (arith, len)) in
     record { behind = more.behind; are = more.are; counted = more.counted }
-
-abbrev Some1 : List ℕ → Type 0
-Some1 sizes = (x : ℕ) × ((xs : List ℕ) × (sizes ≡ x ∷ xs))
-
-shrunk_some : (size exact : ℕ) (b : Bool) → Some1 (if b then size ∷ exact ∷ [] else size ∷ [])
-shrunk_some size exact true = (size, (exact ∷ [], refl))
-shrunk_some size exact false = (size, ([], refl))
-
-grown_some : (units : ℕ) (more : List ℕ) (b : Bool) → Some1 (if b then units ∷ more else units ∷ [])
-grown_some units more true = (units, (more, refl))
-grown_some units more false = (units, ([], refl))
-
-text_some : (s t : Charset) (units exact : ℕ) → Some1 (text_sizes s t units exact)
-text_some utf8 utf8 units exact = (exact, ([], refl))
-text_some utf8 utf16 units exact = shrunk_some (2 * units) exact (nat_lt exact (2 * units))
-text_some utf8 latin1 units exact = (exact, ([], refl))
-text_some utf16 utf8 units exact = grown_some units (shrunk (3 * units) exact) (nat_lt units exact)
-text_some utf16 utf16 units exact = (exact, ([], refl))
-text_some utf16 latin1 units exact = (exact, ([], refl))
-text_some latin1 utf8 units exact = grown_some units (shrunk (2 * units) exact) (nat_lt units exact)
-text_some latin1 utf16 units exact = (exact, ([], refl))
-text_some latin1 latin1 units exact = (exact, ([], refl))
-
-sizes_some : (s t : Charset) (p : Part) → Some1 (part_sizes s t p)
-sizes_some s t (text_part cs) = text_some s t _ _
-sizes_some s t (element_part count size align) = (count * size, ([], refl))
-
-begins : (align : ℕ) (sizes : List ℕ) (rest : List Request) → Some1 sizes → begins_part (chain align sizes ++ rest) ≡ true
-begins align sizes rest some = rw some.1.1 refl
-
-starts : (source target : StringEncoding) (tags : List Bool) (ps : List Part) → begins_part (part_requests source target tags ps) ≡ true
-starts source target tags [] = refl
-starts source target tags (p ∷ ps) = begins (part_align target p) _ (part_requests source target (tags_behind p tags) ps) (sizes_some (read_charset source (first_tag tags)) (stored_charset target) p)
 
 one_chain : (align : ℕ) (sizes : List ℕ) (rest : List Request) (answers : List ℕ) → Some1 sizes → begins_part rest ≡ true
     → length answers ≡ length (chain align sizes ++ rest) → PartAnswered rest (regions_of (chain align sizes ++ rest) answers)

@@ -11,12 +11,9 @@ use Rattle.cm_abi_model.specs.Requests.{stored_charset, text_bytes}
 use Rattle.cm_abi_model.specs.Stores.{Given, place_of}
 use Rattle.cm_abi_store.specs.Fitting.{FitEach, FitFields, Fits, FitsCase}
 use Rattle.cm_abi.specs.Inside.{AreInside}
+use Rattle.cm_abi_model.proofs.PartsLaws.{each_counted}
 
 -- ---- how many parts
-
-each_counted : (P : Val → List Part) (Q : Val → Type 0) (vs : Vals) → ((v : Val) → Q v → length (P v) ≡ part_count v) → AllVals Q vs → length (parts_each P vs) ≡ part_count_each vs
-each_counted P Q no_vals one all = refl
-each_counted P Q (val v vs) one all = omega (arith, length-append (P v) (parts_each P vs), one v all.0, each_counted P Q vs one all.1)
 
 mutual
   pub counted : (t : Ty) (v : Val) → HasType t v → length (parts_in t v) ≡ part_count v

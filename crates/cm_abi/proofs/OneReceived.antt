@@ -38,6 +38,7 @@ use Rattle.cm_abi.proofs.HandleNumbers.{AreSmall, align_is, behind_is, cases_fit
 use Rattle.cm_abi.proofs.HandleNumbers.{no_leaves, no_strings, numbered, numbered_each}
 use Rattle.cm_abi.proofs.HandleNumbers.{numeric_fields, parts_are, size_is, slots_are}
 use Rattle.cm_abi.proofs.HandleNumbers.{spellables_are, stored_is, two, typed_is}
+use Rattle.cm_abi_model.proofs.OneAcross.{again}
 
 -- ---- a call with numbers in the places of handles
 
@@ -356,10 +357,6 @@ module _ (w : View) (g k : Given) where
 
 abbrev One : {A : Type 0} → A → A → List HandleLeaf → List HandleLeaf → Type 0
 One a b as' bs = (a ≡ b) × (as' ≡ bs)
-
-again : (xs ys zs us vs ws : List HandleLeaf) → (xs ++ ys) ++ zs ≡ (us ++ vs) ++ ws
-    → xs ++ (ys ++ zs) ≡ us ++ (vs ++ ws)
-again xs ys zs us vs ws e = sym (append_assoc xs ys zs) ∙ e ∙ append_assoc us vs ws
 
 same_owned : (a b : HandleValue) (as' bs : List HandleLeaf) → owned_leaf a ∷ as' ≡ owned_leaf b ∷ bs
     → One (handle a) (handle b) as' bs

@@ -8,9 +8,6 @@ use Rattle.cm_abi_copy.specs.MetLeaves.{leaf_at, leaves_met}
 use Rattle.cm_abi_model.specs.HandleLeaves.{stands_for}
 use Rattle.cm_abi_model.specs.HandleLeaves.{owned_in}
 
-some_is : {a b : Handle} → Some a ≡ Some b → a ≡ b
-some_is e = cc
-
 -- a handle that is lent is none to be owned
 lent_none : (o : Option Handle) (leaves : List HandleLeaf) → owned_in (leaf_at borrowed_leaf o ++ leaves) ≡ owned_in leaves
 lent_none None leaves = refl

@@ -1,7 +1,7 @@
 -- Numbers put into slots in order, each where its kind fits it.
-use Rattle.std.proofs.Common.{◌≡◌, ℕ, zero, suc, ◌+◌, ◌<◌, ◌≤◌, List, [], ◌∷◌, ◌++◌, length, map, refl, ap, subst, ◌∙◌, arith, get_or, slice_index, slice_set}
+use Rattle.std.proofs.Common.{◌≡◌, ℕ, zero, suc, ◌+◌, ◌<◌, ◌≤◌, List, [], ◌∷◌, ◌++◌, length, map, refl, ap, subst, ◌∙◌, arith, get_or, slice_set}
 use Rattle.std.specs.Prelude.{replicate}
-use Rattle.std.proofs.lemmas.List.{get_or-set_same, get_or-set_other, length-set}
+use Rattle.std.proofs.lemmas.List.{get_or-set_same, length-set}
 use Rattle.cm_types.specs.CoreValues.{kind_of}
 use Rattle.cm_types.specs.declared.core_value.CoreKind.{CoreKind}
 use Rattle.cm_types.specs.declared.core_value.CoreKind.TheVariants as kind
@@ -11,6 +11,7 @@ use Rattle.cm_abi_model.specs.Numbers.{slot_at, slot_number}
 use Rattle.cm_abi_model.specs.Receives.{AreNumbers, SlotsHold, put}
 use Rattle.cm_abi_model.specs.Stores.{Holds, IsBeside, Placed, poke}
 use Rattle.cm_abi.specs.Kinds.{AreNumbersOf, IsNumberOf}
+use Rattle.cm_abi_model.proofs.StoredOnce.{stays}
 
 -- a number fits the kind of a slot, which is there
 abbrev pub FitsAt : List CoreKind → ℕ → ℕ → Type 0
@@ -74,11 +75,6 @@ longer_left [] ys = omega arith
 longer_left (x ∷ xs) [] = omega arith
 longer_left (x ∷ xs) (y ∷ ys) = let more = longer_left xs ys in omega (arith, more)
 
-pub longer_right : (xs ys : List CoreKind) → length ys ≤ length (join_slots xs ys)
-longer_right [] ys = omega arith
-longer_right (x ∷ xs) [] = omega arith
-longer_right (x ∷ xs) (y ∷ ys) = let more = longer_right xs ys in omega (arith, more)
-
 pub covers_all : (ks : List CoreKind) → Covers ks 0 ks
 covers_all ks j n h = subst (λ i. FitsAt ks i n) (omega arith) h
 
@@ -111,10 +107,6 @@ fits_inside (k ∷ ks) (suc j) n h = let more = fits_inside ks j n h in omega (a
 beside_after : (ks : List CoreKind) (a s e : ℕ) (ps : List Placed) → a < s → PutsIn ks s e ps → IsBeside a ps
 beside_after ks a s e [] low h = tt {0}
 beside_after ks a s e (p ∷ ps) low h = ((λ is. absurd (omega (arith, is, low, h.0))), beside_after ks a (p.0 + 1) e ps (omega (arith, low, h.0)) h.1.1)
-
-stays : (ps : List Placed) (m : List ℕ) (a : ℕ) → IsBeside a ps → slice_index (poke ps m) a ≡ slice_index m a
-stays [] m a x = refl
-stays (b ∷ ps) m a x = stays ps (slice_set m b.0 b.1) a x.1 ∙ get_or-set_other m b.0 a b.1 0 x.0
 
 held : (ks : List CoreKind) (s e : ℕ) (ps : List Placed) (m : List ℕ) → length m ≡ length ks → PutsIn ks s e ps → Holds (poke ps m) ps
 held ks s e [] m long h = tt {0}

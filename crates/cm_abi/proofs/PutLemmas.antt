@@ -1,6 +1,6 @@
 -- The numbers of a value are put into its slots in order, each where the kind of its type fits it.
 use Rattle.std.proofs.Common.{◌≡◌, ℕ, zero, suc, ◌+◌, ◌/◌, ◌^◌, ◌<◌, ◌≤◌, Bool, true, false, List, [], ◌∷◌, ◌++◌, length, refl, sym, subst, arith, pos, negsuc, ℤ}
-use Rattle.std.specs.Prelude.{◌&&◌, if◌then◌else◌}
+use Rattle.std.specs.Prelude.{if◌then◌else◌}
 use Rattle.std.proofs.Math.Nat.{pow-le-pow_right}
 use Rattle.std.proofs.lemmas.Bool.{leb-true}
 use Rattle.std.proofs.lemmas.Int.{ints}
@@ -18,7 +18,9 @@ use Rattle.cm_abi_model.specs.Requests.{text_bytes, text_units}
 use Rattle.cm_abi_model.specs.Stores.{Given, from_signed, number_of, place_of, store_each}
 use Rattle.cm_abi_model.specs.Texts.{Charset, unit_size, utf8, utf16, latin1}
 use Rattle.cm_abi.specs.Kinds.{IsNumberOf}
-use Rattle.cm_abi.proofs.PokeLemmas.{Covers, PutsIn, covers_behind, covers_join_left, covers_join_right, covers_left, covers_right, longer_left, longer_right, put_one, puts_append, puts_upper}
+use Rattle.cm_abi.proofs.PokeLemmas.{Covers, PutsIn, covers_behind, covers_join_left, covers_join_right, covers_left, covers_right, longer_left, put_one, puts_append, puts_upper}
+use Rattle.cm_lemmas.proofs.Bools.{both_true}
+use Rattle.cm_layout.proofs.FlatteningLaws.{join_long}
 
 bool_small : (b : Bool) → (if b then 1 else 0) < 2 ^ 32
 bool_small true = omega arith
@@ -41,10 +43,6 @@ unsigned_small bits_64 n fits = tt {0}
 
 flags_small : (ls n : ℕ) → ls ≤ 32 → n < 2 ^ ls → n < 2 ^ 32
 flags_small ls n few h = omega (arith, h, pow-le-pow_right {n = 2} (omega arith) {i = ls} {j = 32} few)
-
-and_parts : (a b : Bool) → (a && b) ≡ true → (a ≡ true) × (b ≡ true)
-and_parts true b h = (refl, h)
-and_parts false b h = absurd (cc)
 
 units_small : (c : Charset) (n : ℕ) → n < 2 ^ 32 → n / unit_size c < 2 ^ 32
 units_small utf8 n h = omega (arith, h)
@@ -111,17 +109,17 @@ module _ (ks : List CoreKind) (g : Given) (places : (k : ℕ) → place_of g k <
     value_puts (list t) ok (elements vs) s k h typed small short c = two_puts s (place_of g k) (count_of vs) c (places k) short.0
     value_puts (fixed_list t n) ok (parts vs) s k h typed small short c =
         subst (λ m. PutsIn ks s (s + length (copies m (flat_of t))) (store_each (slots_of g t) (width_of t) vs s k h)) typed.0
-        (each_puts t (λ v. value_puts t (and_parts _ _ ok).1 v) vs s k h typed.1 small short
+        (each_puts t (λ v. value_puts t (both_true _ _ ok).1 v) vs s k h typed.1 small short
         (subst (λ m. Covers ks s (copies m (flat_of t))) (sym typed.0) c))
-    value_puts (fields f fs) ok (parts vs) s k h typed small short c = fields_puts fs (and_parts _ _ ok).1 vs s k h typed small short c
+    value_puts (fields f fs) ok (parts vs) s k h typed small short c = fields_puts fs (both_true _ _ ok).1 vs s k h typed small short c
     value_puts (cases f cs) ok (bare i) s k h typed small short c =
         puts_upper ks s (s + 1) (s + width_of (cases f cs)) (put s i) (omega arith) (put_one ks s kind.I32 (flat_of_cases cs) i c small)
     value_puts (cases f cs) ok (bearing i v) s k h typed small short c =
         subst (λ e. PutsIn ks s e (put s i ++ slots_of_payload g cs i v (s + 1) k h)) (omega arith)
         (puts_append ks s (s + 1) (s + 1 + length (flat_of_cases cs)) (put s i) _ (put_one ks s kind.I32 (flat_of_cases cs) i c small.0)
-        (payload_puts cs (and_parts _ _ ok).1 i v (s + 1) k h typed small.1 short (covers_behind ks s kind.I32 (flat_of_cases cs) c)))
+        (payload_puts cs (both_true _ _ ok).1 i v (s + 1) k h typed small.1 short (covers_behind ks s kind.I32 (flat_of_cases cs) c)))
     value_puts (flags ls) ok (flag_set n) s k h typed small short c =
-        put_one ks s kind.I32 [] n c (flags_small (length ls) n (leb-true (length ls) 32 (and_parts _ _ ok).1) typed)
+        put_one ks s kind.I32 [] n c (flags_small (length ls) n (leb-true (length ls) 32 (both_true _ _ ok).1) typed)
     value_puts (own r) ok (handle e) s k h typed small short c = put_one ks s kind.I32 [] (number_of g h) c (numbers h)
     value_puts (borrow r) ok (handle e) s k h typed small short c = put_one ks s kind.I32 [] (number_of g h) c (numbers h)
     value_puts t ok v s k h typed small short c = absurd typed
@@ -133,8 +131,8 @@ module _ (ks : List CoreKind) (g : Given) (places : (k : ℕ) → place_of g k <
     fields_puts (field l t fs) ok no_vals s k h typed small short c = absurd typed
     fields_puts (field l t fs) ok (val v vs) s k h typed small short c =
         behind_type s (flat_of t) (flat_of_fields fs) (slots_of g t v s k h) _
-        (value_puts t (and_parts _ _ ok).0 v s k h typed.0 small.0 (short_left g.charset _ _ short) (covers_left ks s (flat_of t) (flat_of_fields fs) c))
-        (fields_puts fs (and_parts _ _ ok).1 vs (s + width_of t) (k + part_count v) (h + handle_count v) typed.1 small.1 (short_right g.charset (parts_in t v) _ short)
+        (value_puts t (both_true _ _ ok).0 v s k h typed.0 small.0 (short_left g.charset _ _ short) (covers_left ks s (flat_of t) (flat_of_fields fs) c))
+        (fields_puts fs (both_true _ _ ok).1 vs (s + width_of t) (k + part_count v) (h + handle_count v) typed.1 small.1 (short_right g.charset (parts_in t v) _ short)
         (covers_right ks s (flat_of t) (flat_of_fields fs) c))
 
     payload_puts : (cs : Cases) → are_spellable_payloads cs ≡ true → (i : ℕ) (v : Val) (s k h : ℕ) → IsCarriedCase cs i v → CasesFit v
@@ -144,7 +142,7 @@ module _ (ks : List CoreKind) (g : Given) (places : (k : ℕ) → place_of g k <
     payload_puts (plain l cs) ok (suc i) v s k h typed small short c = payload_puts cs ok i v s k h typed small short c
     payload_puts (carrying l t cs) ok zero v s k h typed small short c =
         puts_upper ks s (s + width_of t) _ (slots_of g t v s k h) (omega (arith, longer_left (flat_of t) (flat_of_cases cs)))
-        (value_puts t (and_parts _ _ ok).0 v s k h typed small short (covers_join_left ks s (flat_of t) (flat_of_cases cs) c))
+        (value_puts t (both_true _ _ ok).0 v s k h typed small short (covers_join_left ks s (flat_of t) (flat_of_cases cs) c))
     payload_puts (carrying l t cs) ok (suc i) v s k h typed small short c =
-        puts_upper ks s (s + length (flat_of_cases cs)) _ (slots_of_payload g cs i v s k h) (omega (arith, longer_right (flat_of t) (flat_of_cases cs)))
-        (payload_puts cs (and_parts _ _ ok).1 i v s k h typed small short (covers_join_right ks s (flat_of t) (flat_of_cases cs) c))
+        puts_upper ks s (s + length (flat_of_cases cs)) _ (slots_of_payload g cs i v s k h) (omega (arith, join_long (flat_of t) (flat_of_cases cs)))
+        (payload_puts cs (both_true _ _ ok).1 i v s k h typed small short (covers_join_right ks s (flat_of t) (flat_of_cases cs) c))

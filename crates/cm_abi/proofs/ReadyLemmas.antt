@@ -31,8 +31,9 @@ use Rattle.cm_abi.specs.Kinds.{AreNumbersOf}
 use Rattle.cm_abi.specs.Lowers.{CanBeLowered, IsReceiving, asked_for, given_for, handles_passed, parts_passed, tuple_in}
 use Rattle.cm_abi.specs.declared.passing.Passing.{Passing}
 use Rattle.cm_abi.proofs.CallLemmas.{call_counted, call_puts, call_scalars}
-use Rattle.cm_abi.proofs.CountLemmas.{handles_counted, numbers_counted, places_counted}
+use Rattle.cm_abi.proofs.CountLemmas.{handles_counted, places_counted}
 use Rattle.cm_abi.proofs.PokeLemmas.{PutsIn, are_numbers, poked_fit, zeros_fit}
+use Rattle.cm_abi_model.proofs.GivingLaws.{numbers_counted}
 
 -- laws, as they are told
 abbrev pub ApartLaw : Type 0

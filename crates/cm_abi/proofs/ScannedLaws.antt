@@ -1,6 +1,6 @@
 -- What is kept of a scanned value is counted by its parts and its handles; and each handle to be
 -- borrowed is one that was lent.
-use Rattle.std.proofs.Common.{◌≡◌, ℕ, suc, ◌+◌, Bool, true, false, List, [], ◌∷◌, ◌++◌, length, map, Option, Some, None, refl, sym, ap, subst, ◌∙◌, arith, length-append}
+use Rattle.std.proofs.Common.{◌≡◌, ℕ, ◌+◌, Bool, true, false, List, [], ◌∷◌, ◌++◌, length, map, Option, Some, None, refl, sym, ap, subst, ◌∙◌, arith, length-append}
 use Rattle.std.specs.Prelude.{if◌then◌else◌}
 use Rattle.std.specs.Option.{option_map}
 use Rattle.std.proofs.lemmas.List.{length-map}
@@ -9,14 +9,11 @@ use Rattle.cm_types.specs.Values.{HandleValue, HasType, Val}
 use Rattle.cm_handles.specs.Handles.{Handles, handle_at}
 use Rattle.cm_handles.specs.declared.handle.Handle.{Handle}
 use Rattle.cm_layout.specs.Sizes.{align_of, size_of}
-use Rattle.cm_abi_model.specs.declared.encoding.StringEncoding.{StringEncoding}
 use Rattle.cm_abi_model.specs.Parts.{Part, element_part, handle_count, part_count, parts_in}
 use Rattle.cm_abi_model.specs.Receives.{HandleLeaf, owned_leaf, borrowed_leaf, leaves_in}
 use Rattle.cm_abi_model.specs.Requests.{call_parts, is_spilled, parts_of, tuple_of}
 use Rattle.cm_abi_model.specs.Taken.{AllThere, Met, content, lent, lent_of, taken, taken_of, text_content}
-use Rattle.cm_abi_model.specs.Views.{View, Way}
-use Rattle.cm_abi_model.specs.Telling.{TellAll}
-use Rattle.cm_abi_model.specs.declared.record.PartRecord.{PartRecord}
+use Rattle.cm_abi_model.specs.Views.{Way}
 use Rattle.cm_abi_copy.specs.MetLeaves.{leaf_at, leaves_met}
 use Rattle.cm_abi_model.specs.HandleLeaves.{stands_for}
 use Rattle.cm_abi_model.specs.HandleLeaves.{borrowed_in}
@@ -24,14 +21,6 @@ use Rattle.cm_abi.proofs.CountLemmas.{handles_counted}
 use Rattle.cm_abi.proofs.InsideLaws.{counted}
 
 -- ---- parts
-
-pub told_counted : (w : View) (target : StringEncoding) (rs : List PartRecord) (parts : List Part) (places : List ℕ) → TellAll w target rs parts places → length rs ≡ length parts
-told_counted w target [] [] [] told = refl
-told_counted w target (r ∷ rs) (p ∷ ps) (a ∷ as') told = ap suc (told_counted w target rs ps as' told.1)
-told_counted w target [] [] (a ∷ as') told = absurd told
-told_counted w target [] (p ∷ ps) places told = absurd told
-told_counted w target (r ∷ rs) [] places told = absurd told
-told_counted w target (r ∷ rs) (p ∷ ps) [] told = absurd told
 
 with_tuple : (b : Bool) (p : Part) (ps : List Part) → length (if b then p ∷ ps else ps) ≡ (if b then 1 else 0) + length ps
 with_tuple true p ps = omega arith

@@ -3,6 +3,7 @@ use Rattle.std.proofs.Common.{◌≡◌, ℕ, zero, suc, ◌+◌, ◌<◌, ◌�
 use Rattle.std.proofs.lemmas.List.{append_assoc, append-nil, map-append}
 use Rattle.cm_types.specs.declared.core_value.CoreKind.{CoreKind}
 use Rattle.cm_abi.specs.Kinds.{AreNumbersOf, IsNumberOf}
+use Rattle.cm_lemmas.proofs.Lists.{drop_past}
 
 pub record NextFits (ks : List CoreKind) (ns : List ℕ) (i : ℕ) (k : CoreKind) : Type 0 where
   pub there : i < length ns
@@ -31,15 +32,9 @@ one_more f all done behind i y d lt is behind_is so =
     let split : drop i all ≡ f y ∷ drop (i + 1) all = rw (add-one, is) (drop-cons all i d lt) in
     rw (behind_is, map-append f done (y ∷ [])) (append_assoc (map f done) (f y ∷ []) (drop (i + 1) all) ∙ (ap (λ xs. map f done ++ xs) (sym split) ∙ so))
 
-past : {X : Type 0} (xs : List X) (i : ℕ) → length xs ≤ i → drop i xs ≡ []
-past [] zero le = refl
-past [] (suc i) le = refl
-past (x ∷ xs) zero le = absurd (omega (arith, le))
-past (x ∷ xs) (suc i) le = past xs i (omega (arith, le))
-
 -- all of them are there
 pub all_there : {X Y : Type 0} (f : Y → X) (all : List X) (done : List Y) (i : ℕ) → length all ≤ i → map f done ++ drop i all ≡ all → map f done ≡ all
-all_there f all done i le so = sym (append-nil (map f done)) ∙ (ap (λ xs. map f done ++ xs) (sym (past all i le)) ∙ so)
+all_there f all done i le so = sym (append-nil (map f done)) ∙ (ap (λ xs. map f done ++ xs) (sym (drop_past all i le)) ∙ so)
 
 pub as_long : (ks : List CoreKind) (ns : List ℕ) → AreNumbersOf ks ns → length ns ≡ length ks
 as_long [] [] h = refl

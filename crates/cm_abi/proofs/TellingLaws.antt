@@ -1,10 +1,6 @@
 -- Records that tell parts tell what the memory reads.
-use Rattle.std.proofs.Common.{◌≡◌, ℕ, ◌+◌, ◌*◌, ◌<◌, Bool, List, [], ◌∷◌, length, take, drop, slice_index, refl, sym, ap, subst, ◌∙◌, arith, length-append}
-use Rattle.std.proofs.lemmas.List.{get_or-drop, get_or-take}
-use Rattle.std.specs.List.{flat_map}
-use Rattle.std.specs.Char.Escape.{encode_utf16}
+use Rattle.std.proofs.Common.{◌≡◌, ℕ, ◌+◌, ◌<◌, Bool, List, [], ◌∷◌, length, slice_index, refl, sym, ap, subst, ◌∙◌, arith}
 use Rattle.cm_text.specs.Text.{IsText}
-use Rattle.cm_text.specs.Utf16.{bytes_of_unit, spell_utf16}
 use Rattle.cm_abi_model.specs.declared.encoding.StringEncoding.{StringEncoding}
 use Rattle.cm_abi_model.specs.Parts.{Part, text_part, element_part}
 use Rattle.cm_abi_model.specs.Requests.{read_charset, text_bytes, text_units}
@@ -15,11 +11,10 @@ use Rattle.cm_abi_model.specs.declared.record.PartKind.{PartKind}
 use Rattle.cm_abi_model.specs.declared.record.PartKind.TheVariants as kind
 use Rattle.cm_abi_model.specs.declared.record.PartRecord.{PartRecord}
 use Rattle.cm_abi.specs.Reads.{AreAlike, AreAllAlike, ReadsBytes}
+use Rattle.cm_text.proofs.Utf16Laws.{even}
+use Rattle.cm_lemmas.proofs.Lists.{taken_at}
 
 -- ---- what is told is read
-
-taken_at : (m : List ℕ) (at size i : ℕ) → i < size → slice_index (take size (drop at m)) i ≡ slice_index m (at + i)
-taken_at m at size i lt = get_or-take size (drop at m) i 0 lt ∙ get_or-drop at m i 0
 
 text_reads : (w : View) (s : Charset) (r : PartRecord) (cs : List ℕ) → TellsText w s r cs → ReadsBytes w.memory r.at (text_bytes s cs)
 text_reads w s r cs h i lt = sym (taken_at w.memory r.at (length (text_bytes s cs)) i lt) ∙ ap (λ bs. slice_index bs i) (sym h.text.is)
@@ -36,16 +31,6 @@ pub told_of_no_other : (w : View) (target : StringEncoding) (r : PartRecord) (ta
 told_of_no_other w target r tag cs at i is lt otherwise h = otherwise (told_reads w target r tag cs at is h i lt)
 
 -- ---- one list of parts
-
-unit_length : (us : List ℕ) → length (flat_map bytes_of_unit us) ≡ 2 * length us
-unit_length [] = refl
-unit_length (u ∷ us) = omega (arith, unit_length us)
-
-even : (cs : List ℕ) → (n : ℕ) × (length (flat_map spell_utf16 cs) ≡ 2 * n)
-even [] = (0, refl)
-even (c ∷ cs) =
-    let rest = even cs in
-    (length (encode_utf16 c) + rest.0, omega (arith, length-append (spell_utf16 c) (flat_map spell_utf16 cs), unit_length (encode_utf16 c), rest.1))
 
 -- a text has as many bytes as its units tell
 same_size : (s : Charset) (cs ds : List ℕ) → text_units s cs ≡ text_units s ds → length (text_bytes s cs) ≡ length (text_bytes s ds)

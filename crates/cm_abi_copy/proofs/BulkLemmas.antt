@@ -154,13 +154,6 @@ module _ (c : Copying) (small : (i : ℕ) → slice_index c.memory i < 256) wher
           omega (arith, first.2, rest.2),
         )
 
-pub taken : (xs : List ℕ) (p n : ℕ) → p + n ≤ length xs → length (take n (drop p xs)) ≡ n
-taken [] p zero inside = omega arith
-taken [] p (suc n) inside = absurd (omega (arith, inside))
-taken (x ∷ xs) zero zero inside = refl
-taken (x ∷ xs) zero (suc n) inside = ap suc (taken xs zero n (omega (arith, inside)))
-taken (x ∷ xs) (suc p) n inside = taken xs p n (omega (arith, inside))
-
 -- what is marked as plain bytes is numbers
 marked_numbers : (h : Head) (sh : Shape) → IsMarked h sh → IsTrue h.is_bulk → IsNumbers h.size sh
 marked_numbers h (leaf_shape k) marked is = marked.0 is

@@ -9,13 +9,13 @@ use Rattle.cm_types.specs.Types.{Fields}
 use Rattle.cm_types.specs.Values.{HasType, Val}
 use Rattle.cm_handles.specs.Handles.{Handles, IsSoundHandles}
 use Rattle.cm_abi_model.specs.declared.encoding.StringEncoding.{StringEncoding}
-use Rattle.cm_abi_model.specs.Receives.{AreNumbers, HandleLeaf, Receives, Serves, call_bytes, call_kinds, call_numbers}
+use Rattle.cm_abi_model.specs.Receives.{AreNumbers, Receives, Serves, call_bytes, call_kinds, call_numbers}
 use Rattle.cm_abi_model.specs.Regions.{AreApart, ArePlaced}
 use Rattle.cm_abi_model.specs.Requests.{CanStore, call_parts, stored_charset, tuple_of}
 use Rattle.cm_abi_model.specs.Parts.{Part}
 use Rattle.cm_abi_model.specs.Stores.{Framed, Given, Holds, IsBeside, Placed, number_of, place_of, poke}
 use Rattle.cm_abi_model.specs.Views.{View, Way}
-use Rattle.cm_abi_model.specs.Giving.{Gives, added_for, numbers_given, with_added}
+use Rattle.cm_abi_model.specs.Giving.{Gives, numbers_given}
 use Rattle.cm_abi_model.specs.declared.receiver.Receiver.{Receiver}
 use Rattle.cm_abi_store.specs.Calls.{IsProvided}
 use Rattle.cm_abi_store.specs.Kinds.{FitKinds, kind_limit, slot_limit}
@@ -31,6 +31,7 @@ use Rattle.cm_abi_model.specs.Copies.{IsReceivingIn, PartsAreApart, given_by, ha
 use Rattle.cm_abi_copy.specs.Copies.{FoundCanBeCopied}
 use Rattle.cm_abi_copy.specs.Settled.{IsSettled}
 use Rattle.cm_abi_copy.specs.declared.found.Found.{Found}
+use Rattle.cm_abi_model.proofs.GivingLaws.{numbers_counted}
 
 -- laws, as they are told
 abbrev pub StoredLaw : Type 0
@@ -65,10 +66,6 @@ kinds_long (x ∷ slots) = ap suc (kinds_long slots)
 pub none_told : (leaves : List CodedLeaf) → leaves_of leaves ≡ [] → leaves ≡ []
 none_told [] is = refl
 none_told (l ∷ leaves) is = absurd (cc)
-
-numbers_counted : (to : Receiver) (t : Handles) (leaves : List HandleLeaf) → length (numbers_given to t leaves) ≡ length leaves
-numbers_counted to t [] = refl
-numbers_counted to t (leaf ∷ leaves) = ap suc (numbers_counted to (with_added t (added_for to leaf)) leaves)
 
 limit_above : (k : CoreKind) → 0 < kind_limit k
 limit_above kind.I32 = omega arith

@@ -1,7 +1,6 @@
 -- The records of what core values denote tell its parts.
-use Rattle.std.proofs.Common.{◌≡◌, ℕ, zero, suc, ◌+◌, ◌<◌, ◌%◌, ◌^◌, Bool, true, false, List, [], ◌∷◌, ◌++◌, length, drop, get_or, Some, None, refl, sym, ap, subst, ◌∙◌, arith, inl, inr}
+use Rattle.std.proofs.Common.{◌≡◌, ℕ, zero, suc, ◌+◌, ◌<◌, ◌%◌, ◌^◌, Bool, true, false, List, [], ◌∷◌, length, drop, get_or, Some, None, refl, sym, ap, subst, ◌∙◌, arith, inl, inr}
 use Rattle.std.specs.Prelude.{if◌then◌else◌}
-use Rattle.std.proofs.Math.Seq.{drop-nil}
 use Rattle.std.proofs.lemmas.Bool.{le-ltb, lt-ltb}
 use Rattle.std.proofs.lemmas.List.{get_or-drop}
 use Rattle.cm_types.specs.declared.core_value.CoreValue.{CoreValue}
@@ -28,6 +27,10 @@ use Rattle.cm_abi_lift.specs.Telling.{ElementsAreTold, TextIsTold}
 use Rattle.cm_abi_model.specs.Telling.{TellAll}
 use Rattle.cm_abi_model.specs.CallPlaces.{call_places, flat_places, flat_places_in_fields, flat_places_in_payload}
 use Rattle.cm_abi_lift.specs.FlatRecords.{flat_records, flat_records_each, flat_records_of_case, flat_records_of_fields, passed_records, spilled_records}
+use Rattle.cm_abi_model.proofs.NumbersLaws.{at_second}
+use Rattle.cm_types.proofs.CoreValueLaws.{drop_twice}
+use Rattle.cm_lemmas.proofs.Bools.{not_both}
+use Rattle.cm_abi_model.proofs.TellingLaws.{tell_both}
 
 -- what the laws of scanning in memory promise
 pub record Laws : Type 0 where
@@ -36,15 +39,6 @@ pub record Laws : Type 0 where
   pub elements_told : ElementsAreTold
   pub told : (w : View) (target : StringEncoding) (t : Ty) (p : ℕ) (v : Val) → Shows w t p v → TellAll w target (records_at (seen_by w) target (shape_of_type t) p v) (parts_in t v) (places_at w t p v)
 
-tell_both : (w : View) (target : StringEncoding) (rs qs : List PartRecord) (ps os : List Part) (ms ns : List ℕ) → TellAll w target rs ps ms → TellAll w target qs os ns
-    → TellAll w target (rs ++ qs) (ps ++ os) (ms ++ ns)
-tell_both w target [] qs [] os [] ns h k = k
-tell_both w target (r ∷ rs) qs (p ∷ ps) os (m ∷ ms) ns h k = (h.0, tell_both w target rs qs ps os ms ns h.1 k)
-tell_both w target [] qs [] os (m ∷ ms) ns h k = absurd h
-tell_both w target [] qs (p ∷ ps) os ms ns h k = absurd h
-tell_both w target (r ∷ rs) qs [] os ms ns h k = absurd h
-tell_both w target (r ∷ rs) qs (p ∷ ps) os [] ns h k = absurd h
-
 -- ---- slots
 
 pub at_first : (s : List CoreValue) (k : ℕ) → wrapped_at 4 (drop k s) 0 ≡ wrapped_at 4 s k
@@ -52,18 +46,8 @@ at_first s k =
     let here : k + 0 ≡ k = omega arith in
     ap (λ v. slot_number v % 2 ^ 32) (get_or-drop k s 0 (core_value.I32 0) ∙ ap (λ n. get_or s n (core_value.I32 0)) here)
 
-pub at_second : (s : List CoreValue) (k : ℕ) → wrapped_at 4 (drop k s) 1 ≡ wrapped_at 4 s (k + 1)
-at_second s k = ap (λ v. slot_number v % 2 ^ 32) (get_or-drop k s 1 (core_value.I32 0))
-
 two_slots : {X : Type 0} (F : ℕ → ℕ → X) (s : List CoreValue) (k : ℕ) → F (wrapped_at 4 s k) (wrapped_at 4 s (k + 1)) ≡ F (wrapped_at 4 (drop k s) 0) (wrapped_at 4 (drop k s) 1)
 two_slots F s k = sym (ap (λ n. F n (wrapped_at 4 (drop k s) 1)) (at_first s k) ∙ ap (F (wrapped_at 4 s k)) (at_second s k))
-
-pub drop_twice : (w k : ℕ) (s : List CoreValue) → drop w (drop k s) ≡ drop (k + w) s
-drop_twice w zero s = let same : w ≡ 0 + w = omega arith in ap (λ n. drop n s) same
-drop_twice w (suc k) [] = drop-nil w ∙ sym (drop-nil (suc k + w))
-drop_twice w (suc k) (x ∷ s) =
-    let same : suc (k + w) ≡ suc k + w = omega arith in
-    drop_twice w k s ∙ ap (λ n. drop n (x ∷ s)) same
 
 -- ---- values in a row
 
@@ -142,9 +126,6 @@ by_way : Laws → (w : View) (target : StringEncoding) (way : Way) (types : Fiel
     (if b then wrapped_at 4 slots 0 ∷ places_at w (tuple_of types) (wrapped_at 4 slots 0) v else flat_places w slots (tuple_of types) 0 v)
 by_way laws w target way types slots v true spilled flat = spilled_tells laws w target types (wrapped_at 4 slots 0) v (spilled refl)
 by_way laws w target way types slots v false spilled flat = flat_tells laws w target slots (tuple_of types) 0 v (flat refl)
-
-pub not_both : (b : Bool) → b ≡ true → b ≡ false → ⊥
-not_both b t f = cc
 
 pub passed_tells : Laws → (w : View) (target : StringEncoding) (way : Way) (types : Fields) (slots : List CoreValue) (v : Val) → Denotes w way types slots v
     → TellAll w target (passed_records (seen_by w) target (flat_limit way) (layout_of_fields_at types) slots v) (call_parts way types v) (call_places w way types slots v)

@@ -1,17 +1,14 @@
 -- How many handles were handed over.
-use Rattle.std.proofs.Common.{◌≡◌, ℕ, suc, ◌+◌, List, [], ◌∷◌, length, Ok, Err, refl, arith, ap, length-append}
+use Rattle.std.proofs.Common.{◌≡◌, ℕ, ◌+◌, List, [], ◌∷◌, length, Ok, Err, refl, arith, ap, length-append}
 use Rattle.std.specs.Prelude.{Result}
-use Rattle.cm_handles.specs.Handles.{Handles, look_up, if_not_lent, if_owned}
+use Rattle.cm_handles.specs.Handles.{look_up, if_not_lent, if_owned}
 use Rattle.cm_handles.specs.declared.handle.Handle.{Handle}
 use Rattle.cm_handles.specs.declared.fault.HandleFault.{HandleFault}
 use Rattle.cm_layout.specs.declared.layouts.HandleType.{HandleType}
 use Rattle.cm_layout.specs.declared.layouts.HandleType.TheVariants as handle_type
 use Rattle.cm_abi_load.specs.declared.progress.MetHandle.{MetHandle}
 use Rattle.cm_abi_model.specs.declared.fault.AbiFault.{AbiFault}
-use Rattle.cm_abi_model.specs.declared.receiver.Receiver.{Receiver}
-use Rattle.cm_abi_model.specs.Giving.{added_for, numbers_given, with_added}
 use Rattle.cm_abi_model.specs.Lifts.{Hands}
-use Rattle.cm_abi_model.specs.Receives.{HandleLeaf}
 use Rattle.cm_abi_lift.specs.HandingOver.{hand_one, hand_over, taken_out, lent_out, hand_next}
 
 abbrev count_of : Hands → ℕ
@@ -47,8 +44,3 @@ over h k (m ∷ ms) e = by (hand_one h m.wanted m.index) refl e (λ x. over x k 
 -- each handle that was met was taken or lent
 pub all_handed : (h k : Hands) (ms : List MetHandle) → hand_over h ms ≡ Ok k → count_of h ≡ 0 → length k.owns + length k.lends ≡ length ms
 all_handed h k ms e none = omega (arith, over h k ms e, none)
-
--- as many numbers are given as there are handles
-pub all_numbered : (to : Receiver) (t : Handles) (ls : List HandleLeaf) → length (numbers_given to t ls) ≡ length ls
-all_numbered to t [] = refl
-all_numbered to t (l ∷ ls) = ap suc (all_numbered to (with_added t (added_for to l)) ls)

@@ -1,6 +1,5 @@
 -- What is met in a value are its handles.
-use Rattle.std.proofs.Common.{◌≡◌, ℕ, zero, suc, ◌+◌, Bool, true, false, List, [], ◌∷◌, ◌++◌, length, refl, sym, ap, subst, ◌∙◌, inl, inr, append_assoc}
-use Rattle.std.specs.Prelude.{if◌then◌else◌}
+use Rattle.std.proofs.Common.{◌≡◌, ℕ, zero, suc, ◌+◌, true, false, List, [], ◌∷◌, ◌++◌, length, refl, sym, ap, subst, ◌∙◌, inl, inr, append_assoc}
 use Rattle.std.proofs.lemmas.Bool.{le-ltb, lt-ltb}
 use Rattle.cm_types.specs.declared.core_value.CoreValue.{CoreValue}
 use Rattle.cm_types.specs.declared.resource.ResourceId.{ResourceId}
@@ -15,12 +14,13 @@ use Rattle.cm_abi_model.specs.Denotes.{Denotes}
 use Rattle.cm_abi_model.specs.FlatShows.{FlatShowFields, FlatShows, FlatShowsPayload, width_of}
 use Rattle.cm_abi_model.specs.Numbers.{number_at, wrapped_at}
 use Rattle.cm_abi_model.specs.Receives.{HandleLeaf, owned_leaf, borrowed_leaf, leaves_each, leaves_in, leaves_in_fields, leaves_in_payload}
-use Rattle.cm_abi_model.specs.Requests.{is_spilled, tuple_of}
+use Rattle.cm_abi_model.specs.Requests.{tuple_of}
 use Rattle.cm_abi_model.specs.Shows.{ShowEach, ShowFields, Shows, ShowsHandle, ShowsOwned, ShowsPayload}
 use Rattle.cm_abi_model.specs.Taken.{Met, text_content, content, taken, lent, met, met_at, met_each, met_flat, met_flat_fields, met_flat_payload, met_in_fields, met_in_payload}
 use Rattle.cm_abi_model.specs.Views.{View, Way, flat_limit}
 use Rattle.cm_abi_copy.specs.MetLeaves.{leaf_at, leaves_met}
 use Rattle.cm_abi_model.specs.HandleLeaves.{stands_for}
+use Rattle.cm_abi_model.proofs.MetThere.{met_as}
 
 pub met_both : (t : Handles) (xs ys : List Met) → leaves_met t (xs ++ ys) ≡ leaves_met t xs ++ leaves_met t ys
 met_both t [] ys = refl
@@ -117,10 +117,6 @@ module _ (w : View) where
       flat_payload (plain l cs) k (suc i) v h = flat_payload cs k i v h
       flat_payload (carrying l t cs) k zero v h = flat t k v h
       flat_payload (carrying l t cs) k (suc i) v h = flat_payload cs k i v h
-
-met_as : (w : View) (way : Way) (types : Fields) (slots : List CoreValue) (v : Val) (b : Bool) → is_spilled way types ≡ b
-    → met w way types slots v ≡ (if b then met_at w (tuple_of types) (wrapped_at 4 slots 0) v else met_flat w slots (tuple_of types) 0 v)
-met_as w way types slots v b is = ap (λ c. if c then met_at w (tuple_of types) (wrapped_at 4 slots 0) v else met_flat w slots (tuple_of types) 0 v) is
 
 pub passed : (w : View) (way : Way) (types : Fields) (slots : List CoreValue) (v : Val) → Denotes w way types slots v → Agree w.table (met w way types slots v) (leaves_in (tuple_of types) v)
 passed w way types slots v h = elim h [

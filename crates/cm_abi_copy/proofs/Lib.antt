@@ -1,4 +1,3 @@
-pub mod SeenLayouts
 pub mod FlatLemmas
 mod HandedCounts
 pub mod HandleLemmas

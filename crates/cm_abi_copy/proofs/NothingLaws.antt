@@ -34,10 +34,10 @@ use Rattle.cm_abi_load.specs.Meeting.{AreAsWanted, met_as, met_index}
 use Rattle.cm_abi_load.specs.Reading.{seen_by}
 use Rattle.cm_abi_model.specs.Lifts.{Hands}
 use Rattle.cm_abi_lift.specs.HandingOver.{handed}
-use Rattle.cm_abi_lift.specs.Lifts.{lift_of}
 use Rattle.cm_abi_copy.specs.MetLeaves.{leaf_at, leaves_found, leaves_met}
 use Rattle.cm_abi_model.specs.Telling.{TellAll}
 use Rattle.cm_abi_copy.proofs.ScanCallCallLemmas.{FoundLaw, MetLaw, TellsLaw, WantedLaw, WasRead}
+use Rattle.cm_abi_lift.proofs.PassedLaws.{OnlyLaw}
 
 abbrev answer : {A : Type 0} → A × State → Outcome A
 answer x = Ok x
@@ -112,10 +112,6 @@ one_found table (handle_type.Borrow r) index ms h stands none =
 none_found : (table : Handles) (ms : List MetHandle) → AreAsWanted table ms → leaves_found table ms ≡ [] → ms ≡ []
 none_found table [] wanted none = refl
 none_found table (m ∷ ms) wanted none = absurd (one_found table m.wanted m.index (map met_as ms) wanted.0.entry wanted.0.stands none)
-
-abbrev pub OnlyLaw : Type 0
-OnlyLaw = (w : View) (way : Way) (types : Fields) (slots : List CoreValue) (v : Val) → Denotes w way types slots v → Transferable w way types slots v
-    → (tags : List Bool) × (h : Hands) × (lift_of w.memory w.table w.encoding way (layout_of_fields_at types) slots ≡ Ok (v, tags, h))
 
 pub nothing_is_kept : OnlyLaw → TellsLaw → MetLaw → WantedLaw → FoundLaw → (w : View) (target : StringEncoding) (way : Way) (types : Fields) (slots : List CoreValue) (v : Val)
     → Denotes w way types slots v → Transferable w way types slots v → call_parts way types v ≡ [] → leaves_in (tuple_of types) v ≡ []

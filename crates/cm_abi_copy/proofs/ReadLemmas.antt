@@ -33,6 +33,7 @@ use Rattle.cm_abi_copy.specs.Known.{HasSizes, HaveSizes, source_with}
 use Rattle.cm_abi_copy.specs.PartLaws.{ElementsAreCopied, TextIsCopied}
 use Rattle.cm_abi_copy.specs.Ready.{AreElementsReady, AreFieldsReady, AreReady, IsCaseReady, IsReady}
 use Rattle.cm_abi_copy.specs.Shown.{all_without_handles, case_at, leaf_shown, or_no_scalars, scalars_at, values_at, values_each, without_handles}
+use Rattle.cm_abi_load.proofs.ShownLaws.{bind_ok}
 
 -- ---- counts stay where nothing is told of handles
 
@@ -73,10 +74,6 @@ mutual
   all_handles_stay (val v vs) = let first = handles_stay v in let rest = all_handles_stay vs in omega (arith, first, rest)
 
 -- ---- outcomes with no fault
-
-bind_ok : {A B : Type 0} (r : Outcome A) (f : A × State → Outcome B) (y : B × State) → (r >>= f) ≡ Ok y → (x : A × State) × (r ≡ Ok x) × (f x ≡ Ok y)
-bind_ok (Ok x) f y is = (x, refl, is)
-bind_ok (Err e) f y is = absurd cc
 
 abbrev fails : {A : Type 0} → AbiFault → State → Outcome A
 fails e s = Err (e, s)

@@ -1,5 +1,5 @@
 -- What is scanned is what is lifted.
-use Rattle.std.proofs.Common.{◌≡◌, ℕ, ◌^◌, ◌<◌, ◌≤◌, Bool, true, false, List, [], ◌∷◌, ◌++◌, Result, Ok, Err, refl, sym, ap, subst, ◌∙◌, arith}
+use Rattle.std.proofs.Common.{◌≡◌, ℕ, ◌^◌, ◌<◌, ◌≤◌, Bool, true, false, List, [], ◌∷◌, ◌++◌, Ok, Err, refl, sym, ap, subst, ◌∙◌, arith}
 use Rattle.std.specs.Prelude.{◌+◌, ◌-◌, ◌↔◌, if◌then◌else◌}
 use Rattle.cm_types.specs.declared.core_value.CoreValue.{CoreValue}
 use Rattle.cm_types.specs.Types.{Fields}
@@ -14,7 +14,7 @@ use Rattle.cm_abi_model.specs.Denotes.{Denotes}
 use Rattle.cm_abi_model.specs.LiftStops.{LiftStops}
 use Rattle.cm_abi_model.specs.Parts.{Part, element_part, parts_in}
 use Rattle.cm_abi_model.specs.Requests.{call_parts, is_spilled, tuple_of}
-use Rattle.cm_abi_model.specs.Taken.{MAX_CONTENT, Transferable, content_of, met, tags_of}
+use Rattle.cm_abi_model.specs.Taken.{MAX_CONTENT, content_of, met, tags_of}
 use Rattle.cm_abi_model.specs.Views.{View, Way, flat_limit}
 use Rattle.cm_abi_load.specs.declared.progress.MetHandle.{MetHandle}
 use Rattle.cm_abi_load.specs.declared.stop.Stop.{Stop}
@@ -35,21 +35,14 @@ use Rattle.cm_abi_model.specs.declared.record.PartKind.TheVariants as kind
 use Rattle.cm_abi_model.specs.Telling.{TellAll, Tells, TellsSource}
 use Rattle.cm_abi_model.specs.CallPlaces.{call_places}
 use Rattle.cm_abi_lift.specs.FlatRecords.{passed_records}
-use Rattle.cm_abi_model.specs.declared.request.Request.{Request}
-use Rattle.cm_abi_model.specs.Answering.{places_of}
 use Rattle.cm_abi_model.specs.Answered.{IsAnswered, Requesting, unanswered}
 use Rattle.cm_abi_model.specs.Scanned.{Scanned, ScansCall, scanned_with}
 use Rattle.cm_abi_copy.specs.Scans.{IsKept, KeepsNothing, giver_of}
 use Rattle.cm_abi_load.specs.Meeting.{AreAsWanted, Meets}
 use Rattle.cm_abi_model.specs.Receives.{HandleLeaf, leaves_in}
 use Rattle.cm_abi_copy.specs.MetLeaves.{leaves_found}
-
-same_lift : (w : View) (memory : List ℕ) (table : Handles) (encoding : StringEncoding) (way : Way) (l k : LayoutTy) (slots : List CoreValue) → IsGivenBy w memory table encoding → l ≡ k
-    → lift_of memory table encoding way l slots ≡ lift_of w.memory w.table w.encoding way k slots
-same_lift w memory table encoding way l k slots is same =
-    ap (λ m. lift_of m table encoding way l slots) (sym is.memory_is)
-    ∙ (ap (λ t. lift_of w.memory t encoding way l slots) (sym is.table_is)
-    ∙ (ap (λ e. lift_of w.memory w.table e way l slots) (sym is.encoding_is) ∙ ap (λ x. lift_of w.memory w.table w.encoding way x slots) same))
+use Rattle.cm_abi_model.proofs.AnsweringLaws.{none_placed}
+use Rattle.cm_abi_lift.proofs.PassedLaws.{same_lift}
 
 same_records : (w : View) (target : StringEncoding) (memory : List ℕ) (table : Handles) (encoding : StringEncoding) (limit : ℕ) (l k : LayoutTy) (slots : List CoreValue) (v : Val) → IsGivenBy w memory table encoding → l ≡ k
     → passed_records (giver_of memory table encoding) target limit l slots v ≡ passed_records (seen_by w) target limit k slots v
@@ -62,10 +55,6 @@ same_records w target memory table encoding limit l k slots v is same =
 abbrev pub LiftsLaw : Type 0
 LiftsLaw = (w : View) (way : Way) (types : Fields) (slots : List CoreValue) (v : Val) (tags : List Bool) (h : Hands)
     → lift_of w.memory w.table w.encoding way (layout_of_fields_at types) slots ≡ Ok (v, tags, h) → Lifts w way types slots v tags h
-
-abbrev pub OnlyLaw : Type 0
-OnlyLaw = (w : View) (way : Way) (types : Fields) (slots : List CoreValue) (v : Val) → Denotes w way types slots v → Transferable w way types slots v
-    → (tags : List Bool) × (h : Hands) × (lift_of w.memory w.table w.encoding way (layout_of_fields_at types) slots ≡ Ok (v, tags, h))
 
 abbrev pub TellsLaw : Type 0
 TellsLaw = (w : View) (target : StringEncoding) (way : Way) (types : Fields) (slots : List CoreValue) (v : Val) → Denotes w way types slots v
@@ -81,11 +70,6 @@ same_read w memory table encoding limit l k slots s is same =
     ap (λ m. read_passed (giver_of m table encoding) limit l slots s) (sym is.memory_is)
     ∙ (ap (λ t. read_passed (giver_of w.memory t encoding) limit l slots s) (sym is.table_is)
     ∙ (ap (λ e. read_passed (giver_of w.memory w.table e) limit l slots s) (sym is.encoding_is) ∙ ap (λ x. read_passed (seen_by w) limit x slots s) same))
-
--- where nothing is answered yet, the first requests have no answers
-none_placed : (rs : List Request) → places_of rs [] ≡ []
-none_placed [] = refl
-none_placed (r ∷ rs) = refl
 
 pub none_answered : (records : List PartRecord) (source target : StringEncoding) → IsAnswered (unanswered records source target) []
 none_answered records source target =
@@ -126,16 +110,6 @@ nothing_given w target memory table encoding way l k slots is same kept =
     (subst (λ t. KeepsNothing (giver_of w.memory t encoding) target (flat_limit way) l slots) is.table_is
     (subst (λ e. KeepsNothing (giver_of w.memory w.table e) target (flat_limit way) l slots) is.encoding_is
     (subst (λ x. KeepsNothing (seen_by w) target (flat_limit way) x slots) (sym same) kept)))
-
-not_both : (r : Result (Val × List Bool × Hands) AbiFault) (x : Val × List Bool × Hands) (f : AbiFault) → r ≡ Ok x → r ≡ Err f → ⊥
-not_both r x f a b = cc
-
-pub only_given : OnlyLaw → (w : View) (memory : List ℕ) (table : Handles) (encoding : StringEncoding) (way : Way) (l : LayoutTy) (types : Fields) (slots : List CoreValue) (v : Val) (f : AbiFault)
-    → IsGivenBy w memory table encoding → l ≡ layout_of_fields_at types → Denotes w way types slots v → Transferable w way types slots v → lift_of memory table encoding way l slots ≡ Err f → ⊥
-only_given law w memory table encoding way l types slots v f is same denoted can e =
-    let found = law w way types slots v denoted can in
-    not_both (lift_of w.memory w.table w.encoding way (layout_of_fields_at types) slots) (v, found.0, found.1) f found.2
-    (sym (same_lift w memory table encoding way l (layout_of_fields_at types) slots is same) ∙ e)
 
 abbrev pub StopsLaw : Type 0
 StopsLaw = (w : View) (way : Way) (types : Fields) (slots : List CoreValue) (f : AbiFault)

@@ -1,22 +1,17 @@
 -- What is settled of a value that can be copied.
-use Rattle.std.proofs.Common.{◌≡◌, ◌↔◌, ℕ, suc, ◌^◌, ◌<◌, ◌≤◌, Bool, true, false, List, [], ◌∷◌, length, None, refl, sym, ap, subst, ◌∙◌, arith}
-use Rattle.std.specs.Prelude.{if◌then◌else◌, nat_lt, slice_index}
-use Rattle.std.proofs.lemmas.Bool.{ltb-false}
+use Rattle.std.proofs.Common.{◌≡◌, ◌↔◌, ℕ, ◌^◌, ◌<◌, ◌≤◌, Bool, List, [], ◌∷◌, length, None, sym, ap, subst, ◌∙◌, arith}
+use Rattle.std.specs.Prelude.{slice_index}
 use Rattle.cm_types.specs.declared.core_value.CoreKind.{CoreKind}
-use Rattle.cm_types.specs.declared.core_value.CoreKind.TheVariants as kind
 use Rattle.cm_types.specs.declared.core_value.CoreValue.{CoreValue}
-use Rattle.cm_types.specs.declared.limits.TheConstants.{MAX_FLAT_PARAMS}
 use Rattle.cm_types.specs.Types.{Fields}
 use Rattle.cm_types.specs.Values.{HasType, Val}
-use Rattle.cm_layout.specs.Flattening.{flat_of_fields}
 use Rattle.cm_abi_model.specs.declared.encoding.StringEncoding.{StringEncoding}
 use Rattle.cm_abi_model.specs.Denotes.{Denotes}
 use Rattle.cm_abi_model.specs.Parts.{Part, text_part, element_part}
-use Rattle.cm_abi_model.specs.Receives.{call_kinds}
 use Rattle.cm_abi_model.specs.Regions.{AreApart, ArePlaced}
 use Rattle.cm_abi_model.specs.Requests.{call_parts, part_requests, tuple_of}
 use Rattle.cm_abi_model.specs.Stores.{Given}
-use Rattle.cm_abi_model.specs.Views.{View, Way, flat_limit, params, results}
+use Rattle.cm_abi_model.specs.Views.{View, Way}
 use Rattle.cm_abi_model.specs.Ways.{way_of}
 use Rattle.cm_abi_model.specs.Answering.{AreCounted, HaveScalars, first_fault, places_of, regions_of}
 use Rattle.cm_abi_model.specs.Overlap.{AreDisjoint}
@@ -34,17 +29,10 @@ use Rattle.cm_abi_copy.specs.Copies.{FoundCanBeCopied}
 use Rattle.cm_abi_copy.specs.Settled.{IsSettled}
 use Rattle.cm_abi_copy.specs.declared.found.Found.{Found}
 use Rattle.cm_abi_copy.proofs.CountLaws.{counted}
+use Rattle.cm_abi_model.proofs.TellingLaws.{as_many}
+use Rattle.cm_abi_model.proofs.ReceivesLaws.{few_kinds}
 
 -- ---- records and parts
-
--- records that tell parts are as many
-as_many : (w : View) (target : StringEncoding) (rs : List PartRecord) (parts : List Part) (starts : List ℕ) → TellAll w target rs parts starts → length rs ≡ length parts
-as_many w target [] [] [] told = refl
-as_many w target [] [] (s ∷ starts) told = absurd told
-as_many w target [] (p ∷ parts) starts told = absurd told
-as_many w target (r ∷ rs) [] starts told = absurd told
-as_many w target (r ∷ rs) (p ∷ parts) [] told = absurd told
-as_many w target (r ∷ rs) (p ∷ parts) (s ∷ starts) told = ap suc (as_many w target rs parts starts told.1)
 
 -- a string that is told is spelled in its source
 one_spelled : (w : View) (r : PartRecord) (k : PartKind) (p : Part) (rs : List PartRecord) (parts : List Part) → TellsSource w r k p
@@ -63,17 +51,6 @@ spelled w target (r ∷ rs) (p ∷ parts) [] told = absurd told
 spelled w target (r ∷ rs) (p ∷ parts) (s ∷ starts) told = one_spelled w r r.kind p rs parts told.0.source (spelled w target rs parts starts told.1)
 
 -- ---- core values
-
-few_by : (limit n : ℕ) (ks : List CoreKind) (b : Bool) → limit ≤ n → 1 ≤ n → nat_lt limit (length ks) ≡ b → length (if b then kind.I32 ∷ [] else ks) ≤ n
-few_by limit n ks true le some is = omega (arith, some)
-few_by limit n ks false le some is = let within = ltb-false limit (length ks) is in omega (arith, within, le)
-
-limit_few : (way : Way) → flat_limit way ≤ MAX_FLAT_PARAMS
-limit_few params = omega arith
-limit_few results = omega arith
-
-few_kinds : (way : Way) (types : Fields) → length (call_kinds way types) ≤ MAX_FLAT_PARAMS
-few_kinds way types = few_by (flat_limit way) MAX_FLAT_PARAMS (flat_of_fields types) (nat_lt (flat_limit way) (length (flat_of_fields types))) (limit_few way) (omega arith) refl
 
 -- ---- laws, as they are told
 

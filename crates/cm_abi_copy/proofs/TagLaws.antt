@@ -27,7 +27,10 @@ use Rattle.cm_abi_model.specs.declared.record.PartKind.TheVariants as kind
 use Rattle.cm_abi_lift.specs.Records.{is_tagged, records_at, records_each, records_of_case, records_of_fields}
 use Rattle.cm_abi_lift.specs.FlatRecords.{flat_records, flat_records_each, flat_records_of_case, flat_records_of_fields, passed_records, spilled_records}
 use Rattle.cm_abi_model.specs.RecordRequests.{tag_before, tags_of}
-use Rattle.cm_abi_copy.proofs.FlatTells.{at_first, at_second, drop_twice, not_both}
+use Rattle.cm_abi_copy.proofs.FlatTells.{at_first}
+use Rattle.cm_abi_model.proofs.NumbersLaws.{at_second}
+use Rattle.cm_types.proofs.CoreValueLaws.{drop_twice}
+use Rattle.cm_lemmas.proofs.Bools.{not_both}
 
 -- records and what is met have the same tags
 abbrev SameTags : List PartRecord → List Met → Type 0

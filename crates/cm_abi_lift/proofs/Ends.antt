@@ -32,8 +32,8 @@ use Rattle.cm_abi_model.specs.Lifts.{Hands}
 use Rattle.cm_abi_lift.specs.HandingOver.{hand_next, hand_one, hand_over, untouched}
 use Rattle.cm_abi_load.specs.Sized.{core_size}
 use Rattle.cm_abi_model.specs.LiftStops.{GoesOnWith}
-use Rattle.cm_abi_lift.proofs.FlatLaws.{content_both}
 use Rattle.cm_abi_lift.proofs.HandLaws.{Kept, all_go, all_over, after_handles, kept_lent, kept_released, one_borrow, one_own, over_append}
+use Rattle.cm_abi_model.proofs.TakenLemmas.{content_both}
 
 -- ---- where a reader ends
 

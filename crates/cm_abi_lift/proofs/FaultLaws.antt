@@ -15,10 +15,11 @@ use Rattle.cm_abi_model.specs.Views.{View}
 use Rattle.cm_abi_load.specs.Outcomes.{Outcome, State, mapped, ◌>>=◌}
 use Rattle.cm_abi_load.specs.Reading.{leaf_value, read_at, read_case, read_each, read_elements, read_parts, seen_by}
 use Rattle.cm_abi_model.specs.LiftStops.{CaseStops, EachStops, FieldsStop, GoesOnWith, IsLiftedAt, ListStops, StopsAt}
-use Rattle.cm_abi_lift.proofs.FlatLaws.{read_err, read_ok}
+use Rattle.cm_abi_lift.proofs.FlatLaws.{read_err}
 use Rattle.cm_abi_lift.proofs.PassedLaws.{AllLaws}
 use Rattle.cm_abi_lift.proofs.Ends.{Extends, Fails, Finds, Ready, Tells, at_once, at_once_fails, extends_at, extends_each, extends_mapped, extends_parts, fails_then, mapped_fails, stops_then, unmapped_fails}
 use Rattle.cm_abi_lift.proofs.PartStops.{borrow_fails, borrow_stops, char_fails, char_stops, elements_fail, elements_stop, own_fails, own_stops, text_fails, text_stops}
+use Rattle.cm_abi_load.proofs.ShownLaws.{read_ok}
 
 -- ---- values in a row
 

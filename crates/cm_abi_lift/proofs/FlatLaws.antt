@@ -1,8 +1,6 @@
 -- What is read of core values is what they show, and what they show is read.
-use Rattle.std.proofs.Common.{◌≡◌, ℕ, zero, suc, ◌+◌, ◌*◌, ◌%◌, ◌^◌, ◌<◌, ◌≤◌, ◌==◌, Bool, true, false, not, List, [], ◌∷◌, ◌++◌, length, drop, get_or, Ok, Err, refl, sym, ap, subst, ◌∙◌, ◌⊎◌, arith, inl, inr, nat_lt}
+use Rattle.std.proofs.Common.{◌≡◌, ℕ, zero, suc, ◌+◌, ◌*◌, ◌%◌, ◌^◌, ◌≤◌, ◌==◌, Bool, true, false, not, List, length, drop, get_or, Ok, Err, refl, sym, ap, subst, ◌∙◌, arith}
 use Rattle.std.specs.Prelude.{if◌then◌else◌}
-use Rattle.std.proofs.Math.Seq.{drop-nil}
-use Rattle.std.proofs.lemmas.Bool.{and_parts, ltb-true, or_cases}
 use Rattle.std.proofs.lemmas.List.{get_or-drop}
 use Rattle.cm_types.specs.declared.core_value.CoreValue.{CoreValue}
 use Rattle.cm_types.specs.declared.core_value.CoreValue.TheVariants as core_value
@@ -17,15 +15,21 @@ use Rattle.cm_layout.specs.Sizes.{align_of, size_of}
 use Rattle.cm_abi_model.specs.Numbers.{as_signed, slot_number, wrapped_at}
 use Rattle.cm_abi_model.specs.FlatShows.{FlatShowFields, FlatShows, FlatShowsPayload, width_of}
 use Rattle.cm_abi_model.specs.Shows.{ShowEach}
-use Rattle.cm_abi_model.specs.Taken.{Met, text_content, content, taken, lent, content_of, met_each, met_flat, met_flat_fields, met_flat_payload}
+use Rattle.cm_abi_model.specs.Taken.{Met, content_of, met_each, met_flat, met_flat_fields, met_flat_payload}
 use Rattle.cm_abi_model.specs.Views.{View}
 use Rattle.cm_abi_model.specs.declared.fault.AbiFault.{AbiFault}
 use Rattle.cm_abi_model.specs.declared.fault.AbiFault.TheVariants as fault
 use Rattle.cm_abi_load.specs.Meeting.{Meets}
-use Rattle.cm_abi_load.specs.Outcomes.{Outcome, State, mapped, ◌>>=◌}
+use Rattle.cm_abi_load.specs.Outcomes.{Outcome, State, mapped}
 use Rattle.cm_abi_load.specs.PartLaws.{BorrowIsRead, BorrowIsShown, ElementsAreRead, ElementsAreShown, MeetingsJoin, NothingIsMet, OwnIsRead, OwnIsShown, TextIsRead, TextIsShown}
 use Rattle.cm_abi_load.specs.Reading.{read_at, read_elements, read_handle, read_text, seen_by}
 use Rattle.cm_abi_lift.specs.FlatReading.{read_flat, read_flat_case, read_flat_each, read_flat_parts}
+use Rattle.cm_abi_load.proofs.FoundLaws.{Found, bind_found, mapped_found}
+use Rattle.cm_abi_model.proofs.NumbersLaws.{at_second}
+use Rattle.cm_abi_load.proofs.ShownLaws.{bind_ok, mapped_ok, moved, read_ok}
+use Rattle.cm_abi_model.proofs.TakenLemmas.{content_both}
+use Rattle.cm_types.proofs.CoreValueLaws.{drop_twice}
+use Rattle.cm_types.proofs.TypedValueLaws.{scalar_sound, scalar_complete}
 
 -- what the laws of lifting from memory promise
 pub record Laws : Type 0 where
@@ -42,38 +46,8 @@ pub record Laws : Type 0 where
 
 -- ---- outcomes
 
-abbrev pub read_ok : {A : Type 0} → A → State → Outcome A
-read_ok a s = Ok (a, s)
-
 abbrev pub read_err : {A : Type 0} → AbiFault → State → Outcome A
 read_err e s = Err (e, s)
-
-abbrev paired : {A : Type 0} → A → State → A × State
-paired a s = (a, s)
-
-pub moved : {A : Type 0} (P : A → State → Type 0) (x y : A) (s t : State) → read_ok x s ≡ read_ok y t → P x s → P y t
-moved {A} P x y s t e h =
-    let same : paired x s ≡ paired y t = cc in
-    subst (λ u. P u t) (ap (λ (z : A × State). z.0) same) (subst (P x) (ap (λ (z : A × State). z.1) same) h)
-
-pub bind_ok : {A B : Type 0} (r : Outcome A) (f : A × State → Outcome B) (y : B × State) → (r >>= f) ≡ Ok y → (x : A × State) × (r ≡ Ok x) × (f x ≡ Ok y)
-bind_ok (Ok x) f y e = (x, refl, e)
-bind_ok (Err z) f y e = absurd (cc)
-
-mapped_ok : {A B : Type 0} (f : A → B) (r : Outcome A) (y : B × State) → mapped f r ≡ Ok y → (x : A) × (r ≡ Ok (x, y.1)) × (f x ≡ y.0)
-mapped_ok f (Ok x) y e = let same : (f x.0, x.1) ≡ y = cc in (x.0, ap (λ z. Ok (x.0, z)) (ap (λ (z : _ × State). z.1) same), ap (λ (z : _ × State). z.0) same)
-mapped_ok f (Err z) y e = absurd (cc)
-
--- reading comes to a value
-pub record Found {A : Type 0} (r : Outcome A) (v : A) : Type 0 where
-  pub after : State
-  pub is : r ≡ Ok (v, after)
-
-pub bind_found : {A B : Type 0} (r : Outcome A) (f : A × State → Outcome B) (x : A × State) (y : Outcome B) → r ≡ Ok x → f x ≡ y → (r >>= f) ≡ y
-bind_found r f x y is there = ap (λ q. q >>= f) is ∙ there
-
-mapped_found : {A B : Type 0} (f : A → B) (r : Outcome A) (v : A) → Found r v → Found (mapped f r) (f v)
-mapped_found f r v x = record { after = x.after; is = ap (mapped f) x.is }
 
 -- ---- slots
 
@@ -82,49 +56,20 @@ at_first b s k =
     let here : k + 0 ≡ k = omega arith in
     ap (λ v. slot_number v % 2 ^ (8 * b)) (get_or-drop k s 0 (core_value.I32 0) ∙ ap (λ n. get_or s n (core_value.I32 0)) here)
 
-at_second : (s : List CoreValue) (k : ℕ) → wrapped_at 4 (drop k s) 1 ≡ wrapped_at 4 s (k + 1)
-at_second s k = ap (λ v. slot_number v % 2 ^ 32) (get_or-drop k s 1 (core_value.I32 0))
-
 pub two_slots : {X : Type 0} (F : ℕ → ℕ → X) (s : List CoreValue) (k : ℕ) → F (wrapped_at 4 (drop k s) 0) (wrapped_at 4 (drop k s) 1) ≡ F (wrapped_at 4 s k) (wrapped_at 4 s (k + 1))
 two_slots F s k = ap (λ n. F n (wrapped_at 4 (drop k s) 1)) (at_first 4 s k) ∙ ap (F (wrapped_at 4 s k)) (at_second s k)
 
-pub drop_twice : (w k : ℕ) (s : List CoreValue) → drop w (drop k s) ≡ drop (k + w) s
-drop_twice w zero s = let same : w ≡ 0 + w = omega arith in ap (λ n. drop n s) same
-drop_twice w (suc k) [] = drop-nil w ∙ sym (drop-nil (suc k + w))
-drop_twice w (suc k) (x ∷ s) =
-    let same : suc (k + w) ≡ suc k + w = omega arith in
-    drop_twice w k s ∙ ap (λ n. drop n (x ∷ s)) same
-
 -- ---- lists of what is met
 
-pub content_both : (xs ys : List Met) → content_of (xs ++ ys) ≡ content_of xs + content_of ys
-content_both [] ys = let e : content_of ys ≡ 0 + content_of ys = omega arith in e
-content_both (text_content tags n ∷ xs) ys = let e : content_of (xs ++ ys) ≡ content_of xs + content_of ys = content_both xs ys in omega (arith, e)
-content_both (content n ∷ xs) ys = let e : content_of (xs ++ ys) ≡ content_of xs + content_of ys = content_both xs ys in omega (arith, e)
-content_both (taken i ∷ xs) ys = content_both xs ys
-content_both (lent i ∷ xs) ys = content_both xs ys
-
 -- ---- chars
-
-pub scalar_true : (c : ℕ) → is_scalar_value c ≡ true → IsScalarValue c
-scalar_true c e =
-    let both = and_parts (nat_lt c 0x110000) _ e in
-    (ltb-true c 0x110000 both.0, sides (or_cases (nat_lt c 0xD800) (nat_lt 0xDFFF c) both.1))
-  where
-    sides : (nat_lt c 0xD800 ≡ true) ⊎ (nat_lt 0xDFFF c ≡ true) → (c < 0xD800) ⊎ (0xDFFF < c)
-    sides (inl a) = inl (ltb-true c 0xD800 a)
-    sides (inr b) = inr (ltb-true 0xDFFF c b)
 
 char_is : (P : Val → State → Type 0) (b : Bool) (c : ℕ) (s t : State) (v : Val) → (if b then read_ok (scalar c) s else read_err fault.BadChar s) ≡ read_ok v t
     → (b ≡ true → P (scalar c) s) → P v t
 char_is P true c s t v e h = moved P (scalar c) v s t e (h refl)
 char_is P false c s t v e h = absurd (cc)
 
-pub some_side : (c : ℕ) → IsScalarValue c → is_scalar_value c ≡ true
-some_side c is = grind (arith, is)
-
 char_found : (c : ℕ) (s : State) → IsScalarValue c → (if is_scalar_value c then read_ok (scalar c) s else read_err fault.BadChar s) ≡ read_ok (scalar c) s
-char_found c s is = rw (some_side c is) refl
+char_found c s is = rw (scalar_complete c is) refl
 
 -- ---- values in a row
 
@@ -180,7 +125,7 @@ mutual
   flat_shows laws w s (unsigned b) k x y v e = moved (Told w s (unsigned b) k x) _ v x y e (at_first (width_bytes b) s k, laws.nothing w.table x)
   flat_shows laws w s char k x y v e =
       char_is (Told w s char k x) (is_scalar_value (wrapped_at 4 (drop k s) 0)) (wrapped_at 4 (drop k s) 0) x y v e
-      (λ is. ((at_first 4 s k, scalar_true (wrapped_at 4 (drop k s) 0) is), laws.nothing w.table x))
+      (λ is. ((at_first 4 s k, scalar_sound (wrapped_at 4 (drop k s) 0) is), laws.nothing w.table x))
   flat_shows laws w s string k x y v e =
       let r = laws.text_shown w.memory w.encoding (wrapped_at 4 s k) (wrapped_at 4 s (k + 1)) w.table x y v (sym (two_slots (λ a n. read_text w.memory w.encoding a n x) s k) ∙ e) in
       subst (λ u. Told w s string k x u y) (sym r.1) (r.2, r.3)

@@ -1,11 +1,11 @@
 -- Handing over one handle after another.
-use Rattle.std.proofs.Common.{add-one, slice_set, ◌≡◌, ◌≢◌, ℕ, zero, suc, ◌+◌, ◌-◌, ◌<◌, ◌≤◌, ◌==◌, ◌^◌, inl, inr, ◌↔◌, Bool, true, false, List, [], ◌∷◌, ◌++◌, length, map, take, drop, get_or, Option, Some, None, Result, Ok, Err, refl, sym, ap, subst, ◌∙◌, arith}
+use Rattle.std.proofs.Common.{add-one, slice_set, ◌≡◌, ℕ, ◌+◌, ◌-◌, ◌<◌, ◌≤◌, ◌^◌, inl, inr, ◌↔◌, Bool, true, false, List, [], ◌∷◌, ◌++◌, length, map, take, drop, get_or, Option, Some, None, Result, Ok, Err, refl, sym, ap, subst, ◌∙◌, arith}
 use Rattle.std.specs.Prelude.{Contains, if◌then◌else◌}
 use Rattle.std.proofs.Math.Seq.{take-suc}
 use Rattle.std.specs.Option.{ForSome, IsSome, IsSomeAnd, option_map, option_to_list}
 use Rattle.std.specs.List.{slice_get}
-use Rattle.std.proofs.lemmas.Bool.{and_from, cases_eq, cases_lt, eqb-true}
-use Rattle.std.proofs.lemmas.List.{append-nil, append_assoc, get_or_past, length-append, set-get_or, take-append-drop, get_or-set_other, get_or-set_same, length-set, map-append}
+use Rattle.std.proofs.lemmas.Bool.{cases_eq}
+use Rattle.std.proofs.lemmas.List.{append-nil, append_assoc, length-append, set-get_or, take-append-drop, map-append}
 use Rattle.cm_types.specs.declared.resource.ResourceId.{ResourceId}
 use Rattle.cm_handles.specs.Handles.{Handles, TableState, IsDistinct, after_unlend, after_lend, after_release, handle_at, if_not_lent, if_owned, is_borrow, is_same_resource, look_up, of_resource, with_lends}
 use Rattle.cm_handles.specs.declared.handle.Handle.{Handle}
@@ -22,32 +22,14 @@ use Rattle.cm_abi_load.specs.Meeting.{AreAsWanted, IsOfKind, handles_in, met_as,
 use Rattle.cm_abi_load.specs.Reading.{resource_of}
 use Rattle.cm_abi_model.specs.Lifts.{Hands, LendsBelow}
 use Rattle.cm_abi_lift.specs.HandingOver.{hand_next, hand_one, hand_over, lent_out, taken_out, untouched}
+use Rattle.cm_handles.proofs.HandlesLaws.{beside_lent, beside_released, lent_there, free as not_lent_of, released, same_true}
+use Rattle.cm_lemmas.proofs.Numbers.{eq_true}
+use Rattle.cm_handles.proofs.FaultLaws.{okay, failed}
+use Rattle.cm_handles.proofs.HandleLaws.{none_is, some_is}
+use Rattle.cm_lemmas.proofs.Bools.{false_not_true}
+use Rattle.cm_lemmas.proofs.Lists.{set_again}
 
 -- ---- tables
-
-some_is : {a b : Handle} → Some a ≡ Some b → a ≡ b
-some_is e = cc
-
-none_is : {a : Handle} → None ≡ Some a → ⊥
-none_is e = cc
-
-released : (t : Handles) (i : ℕ) → handle_at (after_release t i) i ≡ None
-released t i = elim (cases_lt i (length t.slots)) [
-  | inl below ↦ get_or-set_same t.slots i None None below
-  | inr past ↦ get_or_past (after_release t i).slots i None (subst (λ n. n ≤ i) (sym (length-set t.slots i None)) past)
-]
-
-beside_released : (t : Handles) (i j : ℕ) → j ≢ i → handle_at (after_release t i) j ≡ handle_at t j
-beside_released t i j other = get_or-set_other t.slots i j None None other
-
-beside_lent : (t : Handles) (i j : ℕ) → j ≢ i → handle_at (after_lend t i) j ≡ handle_at t j
-beside_lent t i j other = get_or-set_other t.slots i j _ None other
-
-lent_there : (t : Handles) (i : ℕ) (h : Handle) → handle_at t i ≡ Some h → handle_at (after_lend t i) i ≡ Some (with_lends (h.lends + 1) h)
-lent_there t i h e = elim (cases_lt i (length t.slots)) [
-  | inl below ↦ get_or-set_same t.slots i _ None below ∙ ap (option_map (λ h. with_lends (h.lends + 1) h)) e
-  | inr past ↦ absurd (none_is (sym (get_or_past t.slots i None past) ∙ e))
-]
 
 -- ---- what stood at first stands still, lent more often, or is gone
 
@@ -93,25 +75,11 @@ found_of (Some x) r h e = picked (is_same_resource x.resource r) refl e
 pub looked : (o : Option Handle) (r : ResourceId) (h : Handle) → o ≡ Some h → is_same_resource h.resource r ≡ true → of_resource o r ≡ Ok h
 looked o r h stands of = ap (λ p. of_resource p r) stands ∙ (rw of refl)
 
-abbrev found_ok : Handle → Result Handle HandleFault
-found_ok h = Ok h
-
-abbrev refused : HandleFault → Result Handle HandleFault
-refused e = Err e
-
-not_lent_of : (r : Result Handle HandleFault) (h : Handle) → if_not_lent r ≡ Ok h → (r ≡ found_ok h) × (h.lends ≡ 0)
-not_lent_of (Err e) h is = absurd (cc)
-not_lent_of (Ok x) h is = picked (x.lends == 0) refl is
-  where
-    picked : (b : Bool) → (x.lends == 0) ≡ b → (if b then found_ok x else refused handle_fault.StillLent) ≡ found_ok h → (found_ok x ≡ found_ok h) × (h.lends ≡ 0)
-    picked true zero_is k = let same : x ≡ h = cc in (k, ap (λ (y : Handle). y.lends) (sym same) ∙ eqb-true x.lends 0 zero_is)
-    picked false zero_is k = absurd (cc)
-
-owned_of : (r : Result Handle HandleFault) (h : Handle) → if_owned r ≡ Ok h → (r ≡ found_ok h) × (h.kind ≡ Owned)
+owned_of : (r : Result Handle HandleFault) (h : Handle) → if_owned r ≡ Ok h → (r ≡ okay h) × (h.kind ≡ Owned)
 owned_of (Err e) h is = absurd (cc)
 owned_of (Ok x) h is = picked x.kind refl is
   where
-    picked : (k : HandleKind) → x.kind ≡ k → (if is_borrow k then refused handle_fault.NotOwned else found_ok x) ≡ found_ok h → (found_ok x ≡ found_ok h) × (h.kind ≡ Owned)
+    picked : (k : HandleKind) → x.kind ≡ k → (if is_borrow k then failed handle_fault.NotOwned else okay x) ≡ okay h → (okay x ≡ okay h) × (h.kind ≡ Owned)
     picked Owned kind e = let same : x ≡ h = cc in (e, ap (λ (y : Handle). y.kind) (sym same) ∙ kind)
     picked (Borrowed call) kind e = absurd (cc)
 
@@ -156,13 +124,6 @@ one_borrow h r index g e =
     let out = lent_of_ok h index (look_up h.table index r) g e in
     let found = found_of (handle_at h.table index) r out.0 out.1 in
     record { entry = out.0; stands = found.0; is = out.2 }
-
-pub eq_true : (a b : ℕ) → a ≡ b → (a == b) ≡ true
-eq_true a b e = grind (arith, e)
-
-pub same_true : (a b : ResourceId) → a ≡ b → is_same_resource a b ≡ true
-same_true a b e = and_from (a.component == b.component) (a.number == b.number)
-    (eq_true a.component b.component (ap (λ (r : ResourceId). r.component) e)) (eq_true a.number b.number (ap (λ (r : ResourceId). r.number) e))
 
 own_goes : (h : Hands) (r : ResourceId) (index : ℕ) (x : Handle) → handle_at h.table index ≡ Some x → x.lends ≡ 0 → x.resource ≡ r → x.kind ≡ Owned
     → hand_one h (handle_type.Own r) index ≡ Ok (without h index x)
@@ -340,11 +301,6 @@ goes_over turn t most ms found same wanted can =
 
 -- ---- taking back
 
-set_twice : {A : Type 0} (l : List A) (i : ℕ) (a b : A) → slice_set (slice_set l i a) i b ≡ slice_set l i b
-set_twice [] i a b = refl
-set_twice (x ∷ l) zero a b = refl
-set_twice (x ∷ l) (suc i) a b = ap (λ xs. x ∷ xs) (set_twice l i a b)
-
 last_same : {A : Type 0} (xs ys : List A) (x y : A) → xs ++ x ∷ [] ≡ ys ++ y ∷ [] → (xs ≡ ys) × (x ≡ y)
 last_same [] [] x y e = (refl, cc)
 last_same {A} [] (z ∷ ys) x y e = absurd (too_long ys e)
@@ -381,11 +337,8 @@ can_unlend u g w r i is e =
     let more : 0 < out.entry.lends + 1 = omega arith in
     subst (λ o. IsSomeAnd o (λ h. 0 < h.lends)) (sym there) more
 
-not_true : false ≡ true → ⊥
-not_true e = cc
-
 pub none_no : {A : Type 0} (o : Option A) → o ≡ None → IsSome o → ⊥
-none_no o is some = not_true (subst IsSome is some)
+none_no o is some = false_not_true (subst IsSome is some)
 
 -- the own handle that was taken out last is put back
 pub own_back : (u g : Hands) (w : HandleType) (r : ResourceId) (i : ℕ) (popped : List Handle) (last : Handle) (restored : Handles) → w ≡ handle_type.Own r → hand_one u w i ≡ Ok g
@@ -415,7 +368,7 @@ unlent t i x stands =
     let slots : slice_set (after_lend t i).slots i (option_map (λ h. with_lends (h.lends - 1) h) (handle_at (after_lend t i) i)) ≡ t.slots =
     ap (λ o. slice_set (after_lend t i).slots i (option_map (λ h. with_lends (h.lends - 1) h) o)) (lent_there t i x stands)
     ∙ (ap (λ y. slice_set (after_lend t i).slots i (Some y)) (one_less x)
-    ∙ (set_twice t.slots i (option_map (λ h. with_lends (h.lends + 1) h) (handle_at t i)) (Some x)
+    ∙ (set_again t.slots i (option_map (λ h. with_lends (h.lends + 1) h) (handle_at t i)) (Some x)
     ∙ (ap (slice_set t.slots i) (sym stands) ∙ set-get_or t.slots i None))) in
     ap (λ xs. record t { slots = xs }) slots
 
@@ -426,7 +379,7 @@ borrow_back u g w r i popped None back is e items some back_is =
     let out = one_borrow u r i g (subst (λ x. hand_one u x i ≡ Ok g) is e) in
     let n : length (u.lends ++ i ∷ []) ≡ length u.lends + 1 = length-append u.lends (i ∷ []) in
     let m : length (u.lends ++ i ∷ []) ≡ length g.lends = ap (λ (k : Hands). length k.lends) out.is in
-    absurd (not_true (some (omega (arith, n, m))))
+    absurd (false_not_true (some (omega (arith, n, m))))
 borrow_back u g w r i popped (Some last) back is e items some back_is =
     let out = one_borrow u r i g (subst (λ x. hand_one u x i ≡ Ok g) is e) in
     let one : u.lends ++ i ∷ [] ≡ popped ++ last ∷ [] = ap (λ (k : Hands). k.lends) out.is ∙ items in
@@ -475,12 +428,6 @@ first_less h g ms left i d step within e =
 pub all_fail : (h : Hands) (ms : List MetHandle) (i : ℕ) (f : AbiFault) → hand_over h (take i ms) ≡ Err f → hand_over h ms ≡ Err f
 all_fail h ms i f e =
     ap (hand_over h) (sym (take-append-drop i ms)) ∙ (over_append h (take i ms) (drop i ms) ∙ ap (λ q. hand_next q (λ k. hand_over k (drop i ms))) e)
-
-pub take_all : {A : Type 0} (xs : List A) (i : ℕ) → length xs ≤ i → take i xs ≡ xs
-take_all [] zero past = refl
-take_all [] (suc i) past = refl
-take_all (x ∷ xs) zero past = absurd (omega arith)
-take_all (x ∷ xs) (suc i) past = ap (λ ys. x ∷ ys) (take_all xs i (omega arith))
 
 -- ---- how often handles are lent
 

@@ -1,5 +1,4 @@
 pub mod Seen
-pub mod MakingLemmas
 pub mod WalkLemmas
 pub mod FlatLaws
 pub mod HandLaws

@@ -1,10 +1,10 @@
 -- A pointer, a string, a char and a handle stop exactly where the words of the types say.
-use Rattle.std.proofs.Common.{◌≡◌, ℕ, zero, suc, ◌+◌, ◌-◌, ◌*◌, ◌%◌, ◌<◌, ◌≤◌, ◌==◌, ◌⊎◌, inl, inr, Bool, true, false, not, List, [], ◌∷◌, ◌++◌, length, Option, Some, None, Ok, Err, refl, sym, ap, subst, ◌∙◌, arith, nat_lt}
+use Rattle.std.proofs.Common.{◌≡◌, ℕ, ◌+◌, ◌-◌, ◌*◌, ◌%◌, ◌<◌, ◌≤◌, ◌==◌, ◌⊎◌, inl, inr, Bool, true, false, not, List, [], ◌∷◌, ◌++◌, length, Option, Some, None, Ok, Err, refl, sym, ap, subst, ◌∙◌, arith, nat_lt}
 use Rattle.std.specs.Prelude.{if◌then◌else◌, ⊤}
-use Rattle.std.proofs.lemmas.Bool.{and_parts, eqb-true, le-ltb, lt-ltb, ltb-false, ltb-true}
+use Rattle.std.proofs.lemmas.Bool.{eqb-true, le-ltb, lt-ltb, ltb-false, ltb-true}
 use Rattle.std.proofs.lemmas.List.{append-nil}
 use Rattle.cm_types.specs.declared.resource.ResourceId.{ResourceId}
-use Rattle.cm_types.specs.Values.{HandleValue, Val, handle, scalar, text}
+use Rattle.cm_types.specs.Values.{Val, handle, scalar, text}
 use Rattle.cm_types.specs.TypedValues.{is_scalar_value}
 use Rattle.cm_handles.specs.Handles.{Handles, handle_at, if_not_lent, if_owned, is_same_resource, of_resource}
 use Rattle.cm_handles.specs.declared.handle.Handle.{Handle}
@@ -28,13 +28,17 @@ use Rattle.cm_abi_load.specs.Reading.{after_text, leaf_value, read_each, read_el
 use Rattle.cm_abi_model.specs.Lifts.{Hands}
 use Rattle.cm_abi_lift.specs.HandingOver.{hand_next, hand_one, hand_over, lent_out, taken_out, untouched}
 use Rattle.cm_abi_model.specs.LiftStops.{BorrowStops, CharStops, ContentStops, HasContent, OwnStops, TextStops}
-use Rattle.cm_abi_lift.proofs.FlatLaws.{Laws, bind_found, bind_ok, read_err, read_ok, scalar_true, some_side}
-use Rattle.cm_abi_lift.proofs.HandLaws.{eq_true, looked, same_true}
-use Rattle.cm_abi_lift.proofs.PassedLaws.{aligned, multiple}
+use Rattle.cm_abi_lift.proofs.FlatLaws.{Laws, read_err}
+use Rattle.cm_abi_lift.proofs.HandLaws.{looked}
 use Rattle.cm_abi_lift.proofs.Ends.{Extends, Fails, Finds, Ready, Tells, at_once, at_once_fails, extends_each, extends_text_value, fails_by, fails_then, goes_over_more, handle_met, met_one, over_more, same_grows, state_of, stops_then}
-
-pub no_truth : false ≡ true → ⊥
-no_truth e = cc
+use Rattle.cm_abi_model.proofs.TextsLaws.{aligned, multiple}
+use Rattle.cm_handles.proofs.HandleLaws.{as_read}
+use Rattle.cm_abi_load.proofs.FoundLaws.{bind_found}
+use Rattle.cm_abi_load.proofs.ShownLaws.{bind_ok, read_ok, region_tests}
+use Rattle.cm_lemmas.proofs.Numbers.{eq_true, not_zero}
+use Rattle.cm_lemmas.proofs.Bools.{false_not_true}
+use Rattle.cm_handles.proofs.HandlesLaws.{same_is, same_true}
+use Rattle.cm_types.proofs.TypedValueLaws.{scalar_sound, scalar_complete}
 
 pub bool_false : (b : Bool) → (b ≡ true → ⊥) → b ≡ false
 bool_false true h = absurd (h refl)
@@ -44,13 +48,6 @@ bool_false false h = refl
 
 meets_bytes : (t : Handles) (s : State) (size : ℕ) → size ≤ s.left → Meets t s (record s { left = s.left - size }) (content size ∷ [])
 meets_bytes t s size room = record { counted = omega (arith, room); tagged = sym (append-nil s.tags); found = []; handles = sym (append-nil s.handles); same = refl; wanted = tt }
-
-region_tests : (a b c : Bool) (x y z : AbiFault × State) (v r : ⊤ × State)
-    → (if not a then Err x else (if b then Err y else (if c then Err z else Ok v))) ≡ Ok r → (a ≡ true) × (b ≡ false) × (c ≡ false) × (v.1 ≡ r.1)
-region_tests true false false x y z v r e = let same : v ≡ r = cc in (refl, refl, refl, ap (λ (w : ⊤ × State). w.1) same)
-region_tests true false true x y z v r e = absurd (cc)
-region_tests true true c x y z v r e = absurd (cc)
-region_tests false b c x y z v r e = absurd (cc)
 
 abbrev pub Content : View → ℕ → ℕ → ℕ → List Met → ⊤ → Type 0
 Content w align at size ms u = HasContent w.memory align at size ms
@@ -80,7 +77,7 @@ region_stops w align at size s ms f ready fails = tests (at % align == 0) refl (
     tests : (a : Bool) → (at % align == 0) ≡ a → (b : Bool) → nat_lt (length w.memory) (at + size) ≡ b → (c : Bool) → nat_lt s.left size ≡ c
         → Fails {A = ⊤} w.table (if not a then read_err fault.Misaligned s else (if b then read_err fault.PointerBounds s else (if c then read_err fault.TooLarge s else read_ok tt (record s { left = s.left - size })))) f
         → ContentStops w.memory align at size ms f
-    tests false is b bi c ci fails = subst (ContentStops w.memory align at size ms) (at_once {A = ⊤} w s ms (read_err fault.Misaligned s) f ready refl fails) (λ al. no_truth (sym is ∙ multiple align at al))
+    tests false is b bi c ci fails = subst (ContentStops w.memory align at size ms) (at_once {A = ⊤} w s ms (read_err fault.Misaligned s) f ready refl fails) (λ al. false_not_true (sym is ∙ multiple align at al))
     tests true is true bi c ci fails = subst (ContentStops w.memory align at size ms) (at_once {A = ⊤} w s ms (read_err fault.PointerBounds s) f ready refl fails) (aligned align at is, ltb-true (length w.memory) (at + size) bi)
     tests true is false bi true ci fails =
         let less : s.left < size = ltb-true s.left size ci in
@@ -225,25 +222,15 @@ char_stops w c s ms f ready fails = tests (is_scalar_value c) refl fails
   where
     tests : (b : Bool) → is_scalar_value c ≡ b → Fails {A = Val} w.table (if b then read_ok (scalar c) s else read_err fault.BadChar s) f → CharStops c f
     tests true is fails = absurd (at_once {A = Val} w s ms (read_ok (scalar c) s) f ready refl fails)
-    tests false is fails = (sym (at_once {A = Val} w s ms (read_err fault.BadChar s) f ready refl fails), λ yes. no_truth (sym is ∙ some_side c yes))
+    tests false is fails = (sym (at_once {A = Val} w s ms (read_err fault.BadChar s) f ready refl fails), λ yes. false_not_true (sym is ∙ scalar_complete c yes))
 
 pub char_fails : (w : View) (c : ℕ) (s : State) (ms : List Met) (f : AbiFault) → Ready w s ms → CharStops c f → Fails w.table (leaf_value leaf.Char c s) f
 char_fails w c s ms f ready h =
-    let no : is_scalar_value c ≡ false = bool_false (is_scalar_value c) (λ yes. h.1 (scalar_true c yes)) in
+    let no : is_scalar_value c ≡ false = bool_false (is_scalar_value c) (λ yes. h.1 (scalar_sound c yes)) in
     let is : leaf_value leaf.Char c s ≡ read_err fault.BadChar s = rw no refl in
     subst (λ q. Fails w.table q f) (sym is) (at_once_fails {A = Val} w s ms (read_err fault.BadChar s) f ready refl (sym h.0))
 
 -- ---- handles
-
-same_is : (a b : ResourceId) → is_same_resource a b ≡ true → a ≡ b
-same_is a b e =
-    let both = and_parts (a.component == b.component) (a.number == b.number) e in
-    ap (λ n. record { component = n; number = a.number }) (eqb-true a.component b.component both.0)
-    ∙ ap (λ n. record { component = b.component; number = n }) (eqb-true a.number b.number both.1)
-
-some_lends : (n : ℕ) → (n == 0) ≡ false → 0 < n
-some_lends zero e = absurd (cc)
-some_lends (suc n) e = omega arith
 
 lends_some : (n : ℕ) → 0 < n → (n == 0) ≡ false
 lends_some n lt = bool_false (n == 0) (λ e. let none : n ≡ 0 = eqb-true n 0 e in omega (arith, lt, none))
@@ -270,12 +257,12 @@ own_way h r i = looked_at (handle_at h.table i) refl
 
     frees : (x : Handle) → handle_at h.table i ≡ Some x → x.resource ≡ r → (b : Bool) → (x.lends == 0) ≡ b → OwnStopped h r i ⊎ OwnGoes h r i
     frees x stands of true is = kinds x stands of (eqb-true x.lends 0 is) x.kind refl
-    frees x stands of false is = inl (fault.StillLent, there x stands of ∙ rw is refl, (x, stands, of, some_lends x.lends is))
+    frees x stands of false is = inl (fault.StillLent, there x stands of ∙ rw is refl, (x, stands, of, not_zero x.lends is))
 
     resources : (x : Handle) → handle_at h.table i ≡ Some x → (b : Bool) → is_same_resource x.resource r ≡ b → OwnStopped h r i ⊎ OwnGoes h r i
     resources x stands true is = frees x stands (same_is x.resource r is) (x.lends == 0) refl
     resources x stands false is =
-        inl (fault.WrongResource, ap (λ o. taken_out h i (if_owned (if_not_lent (of_resource o r)))) stands ∙ rw is refl, (x, stands, λ e. no_truth (sym is ∙ same_true x.resource r e)))
+        inl (fault.WrongResource, ap (λ o. taken_out h i (if_owned (if_not_lent (of_resource o r)))) stands ∙ rw is refl, (x, stands, λ e. false_not_true (sym is ∙ same_true x.resource r e)))
 
     looked_at : (o : Option Handle) → handle_at h.table i ≡ o → OwnStopped h r i ⊎ OwnGoes h r i
     looked_at None is = inl (fault.NoHandle, ap (λ o. taken_out h i (if_owned (if_not_lent (of_resource o r)))) is, is)
@@ -310,7 +297,7 @@ borrow_way h r i = looked_at (handle_at h.table i) refl
     resources : (x : Handle) → handle_at h.table i ≡ Some x → (b : Bool) → is_same_resource x.resource r ≡ b → BorrowStopped h r i ⊎ BorrowGoes h r i
     resources x stands true is = inr (x, stands, same_is x.resource r is)
     resources x stands false is =
-        inl (fault.WrongResource, ap (λ o. lent_out h i (of_resource o r)) stands ∙ rw is refl, (x, stands, λ e. no_truth (sym is ∙ same_true x.resource r e)))
+        inl (fault.WrongResource, ap (λ o. lent_out h i (of_resource o r)) stands ∙ rw is refl, (x, stands, λ e. false_not_true (sym is ∙ same_true x.resource r e)))
 
     looked_at : (o : Option Handle) → handle_at h.table i ≡ o → BorrowStopped h r i ⊎ BorrowGoes h r i
     looked_at None is = inl (fault.NoHandle, ap (λ o. lent_out h i (of_resource o r)) is, is)
@@ -333,9 +320,6 @@ last_stops w t i s ms f ready is =
 -- the reader came to a value, and its handle can go
 goes_on : {A : Type 0} (w : View) (s t : State) (ms more : List Met) (q : Outcome A) (v : A) (f : AbiFault) → Ready w s ms → q ≡ Ok (v, t) → (g : Hands) × (hand_over (untouched w.table) t.handles ≡ Ok g) → Fails w.table q f → ⊥
 goes_on {A} w s t ms more q v f ready is hands fails = subst (λ h. fails_by {A = A} (Ok (v, t)) h f) hands.1 (subst (λ x. Fails w.table x f) is fails)
-
-abbrev as_read : Handle → ResourceId → HandleValue
-as_read x r = record { serial = x.serial; rep = x.rep; resource = r }
 
 pub own_stops : Laws → (w : View) (r : ResourceId) (i : ℕ) (s : State) (ms : List Met) (f : AbiFault) → Ready w s ms → Fails w.table (read_handle w.table (handle_type.Own r) i s) f → OwnStops (after_met w.table ms) r i f
 own_stops laws w r i s ms f ready fails =

@@ -25,12 +25,17 @@ use Rattle.cm_abi_model.specs.Lifts.{Hands}
 use Rattle.cm_abi_lift.specs.HandingOver.{hand_over, handed, state_in, untouched}
 use Rattle.cm_abi_lift.specs.Lifts.{fresh, lift_of}
 use Rattle.cm_abi_model.specs.LiftStops.{EachStops, FlatCaseStops, FlatFieldsStop, FlatStopsAt, IsLiftedFlat, LiftStops, LiftStopsBy, PointerStops, SpilledStops}
-use Rattle.cm_abi_lift.proofs.FlatLaws.{at_first, drop_twice, flat_found, flat_shows, read_err, read_ok, two_slots}
+use Rattle.cm_abi_lift.proofs.FlatLaws.{at_first, flat_found, flat_shows, read_err, two_slots}
 use Rattle.cm_abi_lift.proofs.HandLaws.{kept_first}
-use Rattle.cm_abi_lift.proofs.PassedLaws.{AllLaws, aligned, multiple, lifts_view, must_lift_view, spilled_there}
+use Rattle.cm_abi_lift.proofs.PassedLaws.{AllLaws, lifts_view, must_lift_view, spilled_there}
 use Rattle.cm_abi_lift.proofs.Ends.{Fails, Finds, Ready, Tells, at_once, at_once_fails, extends_flat, extends_flat_each, extends_flat_parts, extends_mapped, fails_by, fails_then, mapped_fails, state_of, stops_then, unmapped_fails}
-use Rattle.cm_abi_lift.proofs.PartStops.{borrow_fails, borrow_stops, bool_false, char_fails, char_stops, no_truth, own_fails, own_stops, text_fails, text_stops}
+use Rattle.cm_abi_lift.proofs.PartStops.{borrow_fails, borrow_stops, bool_false, char_fails, char_stops, own_fails, own_stops, text_fails, text_stops}
 use Rattle.cm_abi_lift.proofs.FaultLaws.{Lifted, One, Row, at_fails, at_stops, each_fails, each_stops, list_fails, list_stops, one_at}
+use Rattle.cm_abi_model.proofs.TextsLaws.{aligned, multiple}
+use Rattle.cm_types.proofs.CoreValueLaws.{drop_twice}
+use Rattle.cm_lemmas.proofs.Bools.{false_not_true}
+use Rattle.cm_abi_model.proofs.FaultLaws.{not_both}
+use Rattle.cm_abi_load.proofs.ShownLaws.{read_ok}
 
 -- ---- in core values
 
@@ -191,7 +196,7 @@ spilled_stops laws w t at s f ready fails = tests (at % align_of t == 0) refl (n
   where
     tests : (a : Bool) → (at % align_of t == 0) ≡ a → (b : Bool) → nat_lt (length w.memory) (at + size_of t) ≡ b
         → Fails {A = Val} w.table (if not a then read_err fault.Misaligned s else (if b then read_err fault.PointerBounds s else read_at (seen_by w) (shape_of_type t) at s)) f → SpilledStops w t at f
-    tests false is b bi fails = inl (subst (PointerStops w.memory (align_of t) at (size_of t)) (at_once {A = Val} w s [] (read_err fault.Misaligned s) f ready refl fails) (λ al. no_truth (sym is ∙ multiple (align_of t) at al)))
+    tests false is b bi fails = inl (subst (PointerStops w.memory (align_of t) at (size_of t)) (at_once {A = Val} w s [] (read_err fault.Misaligned s) f ready refl fails) (λ al. false_not_true (sym is ∙ multiple (align_of t) at al)))
     tests true is true bi fails = inl (subst (PointerStops w.memory (align_of t) at (size_of t)) (at_once {A = Val} w s [] (read_err fault.PointerBounds s) f ready refl fails) (aligned (align_of t) at is, ltb-true (length w.memory) (at + size_of t) bi))
     tests true is false bi fails = inr (record { aligned = aligned (align_of t) at is; inside = ltb-false (length w.memory) (at + size_of t) bi }, at_stops laws w t at s [] f ready fails)
 
@@ -270,9 +275,6 @@ same_err r f g a b = cc
 pub one : AllLaws → (w : View) (way : Way) (types : Fields) (slots : List CoreValue) (f g : AbiFault) → LiftStops w way types slots f → LiftStops w way types slots g → f ≡ g
 one laws w way types slots f g a b =
     same_err (lift_of w.memory w.table w.encoding way (layout_of_fields_at types) slots) f g (stops_err laws w way types slots f a) (stops_err laws w way types slots g b)
-
-not_both : (r : Result (Val × List Bool × Hands) AbiFault) (x : Val × List Bool × Hands) (f : AbiFault) → r ≡ Ok x → r ≡ Err f → ⊥
-not_both r x f a b = cc
 
 pub beside_no_value : AllLaws → (w : View) (way : Way) (types : Fields) (slots : List CoreValue) (f : AbiFault) (v : Val) → LiftStops w way types slots f → Denotes w way types slots v → Transferable w way types slots v → ⊥
 beside_no_value laws w way types slots f v stops denoted can =

@@ -1,8 +1,7 @@
 -- What a call passes is read exactly where it is denoted.
-use Rattle.std.proofs.Common.{◌≡◌, ℕ, ◌+◌, ◌/◌, ◌%◌, ◌≤◌, ◌==◌, Bool, true, false, not, List, length, Result, Ok, Err, refl, sym, ap, subst, ◌∙◌, arith, inl, inr, nat_lt}
+use Rattle.std.proofs.Common.{◌≡◌, ℕ, ◌+◌, ◌%◌, ◌≤◌, ◌==◌, Bool, true, false, not, List, length, Result, Ok, Err, refl, sym, ap, subst, ◌∙◌, arith, inl, inr, nat_lt}
 use Rattle.std.specs.Prelude.{if◌then◌else◌}
-use Rattle.std.proofs.Math.Nat.{div-add-mod, mul_comm, mul-mod_left}
-use Rattle.std.proofs.lemmas.Bool.{eqb-true, le-ltb, lt-ltb, ltb-false, ltb-true}
+use Rattle.std.proofs.lemmas.Bool.{le-ltb, lt-ltb, ltb-false, ltb-true}
 use Rattle.cm_types.specs.declared.core_value.CoreValue.{CoreValue}
 use Rattle.cm_types.specs.Types.{Fields, Ty}
 use Rattle.cm_types.specs.Values.{Val, Vals, parts}
@@ -26,8 +25,11 @@ use Rattle.cm_abi_model.specs.Lifts.{Hands}
 use Rattle.cm_abi_lift.specs.HandingOver.{hand_over, handed, lifted, state_in, untouched}
 use Rattle.cm_abi_model.specs.Lifts.{IsGivenBy, Lifts}
 use Rattle.cm_abi_lift.specs.Lifts.{fresh, lift_of}
-use Rattle.cm_abi_lift.proofs.FlatLaws.{Found, Laws, flat_found, flat_shows}
+use Rattle.cm_abi_lift.proofs.FlatLaws.{Laws, flat_found, flat_shows}
 use Rattle.cm_abi_lift.proofs.HandLaws.{TurnLaw, goes_over, over}
+use Rattle.cm_abi_load.proofs.FoundLaws.{Found}
+use Rattle.cm_abi_model.proofs.TextsLaws.{aligned, multiple}
+use Rattle.cm_abi_model.proofs.FaultLaws.{not_both}
 
 -- all laws of the crates below that are wanted here
 pub record AllLaws : Type 0 where
@@ -42,14 +44,6 @@ mapped_ok f (Ok x) y e = let same : (f x.0, x.1) ≡ y = cc in (x.0, ap (λ (z :
 mapped_ok f (Err z) y e = absurd (cc)
 
 -- ---- a tuple at a pointer
-
-pub aligned : (align at : ℕ) → (at % align == 0) ≡ true → IsAligned align at
-aligned align at e =
-    let z : at % align ≡ 0 = eqb-true (at % align) 0 e in
-    (at / align, omega (arith, div-add-mod at align, mul_comm align (at / align)))
-
-pub multiple : (align at : ℕ) → IsAligned align at → (at % align == 0) ≡ true
-multiple align at is = ap (λ n. n % align == 0) is.1 ∙ ap (λ n. n == 0) (mul-mod_left is.0 align)
 
 tests : (a b : Bool) (x y : AbiFault × State) (r : Outcome Val) (v : Val × State) → (if not a then Err x else (if b then Err y else r)) ≡ Ok v → (a ≡ true) × (b ≡ false) × (r ≡ Ok v)
 tests true false x y r v e = (refl, refl, e)
@@ -145,7 +139,7 @@ must_lift_view laws w way types slots v denoted can =
 
 -- ---- of the code's
 
-same_lift : (w : View) (memory : List ℕ) (table : Handles) (encoding : StringEncoding) (way : Way) (l k : LayoutTy) (slots : List CoreValue) → IsGivenBy w memory table encoding → l ≡ k
+pub same_lift : (w : View) (memory : List ℕ) (table : Handles) (encoding : StringEncoding) (way : Way) (l k : LayoutTy) (slots : List CoreValue) → IsGivenBy w memory table encoding → l ≡ k
     → lift_of memory table encoding way l slots ≡ lift_of w.memory w.table w.encoding way k slots
 same_lift w memory table encoding way l k slots is same =
     ap (λ m. lift_of m table encoding way l slots) (sym is.memory_is)
@@ -164,9 +158,6 @@ pub lifts_given : LiftsLaw → (w : View) (memory : List ℕ) (table : Handles) 
     → IsGivenBy w memory table encoding → l ≡ layout_of_fields_at types → lift_of memory table encoding way l slots ≡ Ok (v, tags, h) → Lifts w way types slots v tags h
 lifts_given law w memory table encoding way l types slots v tags h is same e =
     law w way types slots v tags h (sym (same_lift w memory table encoding way l (layout_of_fields_at types) slots is same) ∙ e)
-
-not_both : (r : Result (Val × List Bool × Hands) AbiFault) (x : Val × List Bool × Hands) (f : AbiFault) → r ≡ Ok x → r ≡ Err f → ⊥
-not_both r x f a b = cc
 
 pub only_given : OnlyLaw → (w : View) (memory : List ℕ) (table : Handles) (encoding : StringEncoding) (way : Way) (l : LayoutTy) (types : Fields) (slots : List CoreValue) (v : Val) (f : AbiFault)
     → IsGivenBy w memory table encoding → l ≡ layout_of_fields_at types → Denotes w way types slots v → Transferable w way types slots v → lift_of memory table encoding way l slots ≡ Err f → ⊥

@@ -1,6 +1,6 @@
 -- The records of what bytes show tell its parts.
-use Rattle.std.proofs.Common.{◌≡◌, ℕ, zero, suc, ◌+◌, ◌*◌, ◌/◌, ◌<◌, ◌≤◌, Bool, true, false, List, [], ◌∷◌, ◌++◌, length, drop, Some, None, refl, sym, ap, subst, ◌∙◌, arith, length-drop}
-use Rattle.std.specs.Prelude.{not, nat_lt, if◌then◌else◌}
+use Rattle.std.proofs.Common.{◌≡◌, ℕ, zero, suc, ◌+◌, ◌*◌, ◌/◌, ◌<◌, ◌≤◌, List, [], ◌∷◌, length, drop, Some, None, refl, sym, ap, subst, ◌∙◌, arith, length-drop}
+use Rattle.std.specs.Prelude.{nat_lt}
 use Rattle.std.proofs.lemmas.List.{length-take-le}
 use Rattle.cm_types.specs.Types.{Ty, Fields, Cases, bool, signed, unsigned, char, string, list, fixed_list, fields, cases, flags, own, borrow, no_fields, field, no_cases, plain, carrying}
 use Rattle.cm_types.specs.Values.{Val, Vals, no_vals, val, truth, signed_number, number, scalar, text, elements, parts, bare, bearing, flag_set, handle, count_of}
@@ -11,9 +11,9 @@ use Rattle.cm_abi_model.specs.declared.encoding.StringEncoding.{StringEncoding}
 use Rattle.cm_abi_model.specs.declared.encoding.StringEncoding.TheVariants as encoding
 use Rattle.cm_abi_model.specs.Numbers.{number_at}
 use Rattle.cm_abi_model.specs.Parts.{Part, text_part, element_part, parts_each, parts_in, parts_in_fields, parts_in_payload}
-use Rattle.cm_abi_model.specs.Requests.{read_charset, tagged_charset, text_bytes}
+use Rattle.cm_abi_model.specs.Requests.{read_charset, text_bytes}
 use Rattle.cm_abi_model.specs.Shows.{ShowEach, ShowFields, Shows, ShowsElements, ShowsPayload}
-use Rattle.cm_abi_model.specs.Texts.{Charset, Has, ShowsText, UTF16_TAG, bytes_from, charset_of, latin1, spell, text_align, text_size, unit_size, units_of, utf16, utf8}
+use Rattle.cm_abi_model.specs.Texts.{Charset, Has, ShowsText, UTF16_TAG, bytes_from, charset_of, latin1, spell, text_size, unit_size, units_of, utf16, utf8}
 use Rattle.cm_abi_model.specs.Views.{View}
 use Rattle.cm_text.specs.Text.{IsText}
 use Rattle.cm_abi_load.specs.Reading.{seen_by}
@@ -21,22 +21,10 @@ use Rattle.cm_abi_model.specs.declared.record.PartRecord.{PartRecord}
 use Rattle.cm_abi_model.specs.Places.{places_at, places_each, places_in_fields, places_in_payload}
 use Rattle.cm_abi_lift.specs.Records.{element_record, is_tagged, records_at, records_each, records_of_case, records_of_fields, records_of_list, text_record}
 use Rattle.cm_abi_model.specs.Telling.{TellAll, Tells, TellsText}
-
--- records that tell parts, and others that tell others
-pub tell_both : (w : View) (target : StringEncoding) (rs qs : List PartRecord) (ps os : List Part) (ms ns : List ℕ) → TellAll w target rs ps ms → TellAll w target qs os ns
-    → TellAll w target (rs ++ qs) (ps ++ os) (ms ++ ns)
-tell_both w target [] qs [] os [] ns h k = k
-tell_both w target (r ∷ rs) qs (p ∷ ps) os (m ∷ ms) ns h k = (h.0, tell_both w target rs qs ps os ms ns h.1 k)
-tell_both w target [] qs [] os (m ∷ ms) ns h k = absurd h
-tell_both w target [] qs (p ∷ ps) os ms ns h k = absurd h
-tell_both w target (r ∷ rs) qs [] os ms ns h k = absurd h
-tell_both w target (r ∷ rs) qs (p ∷ ps) os [] ns h k = absurd h
+use Rattle.cm_abi_model.proofs.TextsLaws.{by_tag, text_some}
+use Rattle.cm_abi_model.proofs.TellingLaws.{tell_both}
 
 -- ---- strings
-
-by_tag : (b : Bool) → tagged_charset (not b) ≡ (if b then latin1 else utf16)
-by_tag true = refl
-by_tag false = refl
 
 same_charset : (e : StringEncoding) (n : ℕ) → read_charset e (is_tagged e n) ≡ charset_of e n
 same_charset encoding.Utf8 n = refl
@@ -58,11 +46,6 @@ text_as w target at n cs s is shown =
     subst (λ z. IsText (Has (charset_of w.encoding n)) (spell (charset_of w.encoding n)) cs (bytes_from w.memory at z)) (sym size_is) shown.text in
     subst (λ x. TellsText w x (text_record w.encoding target at n (text cs)) cs) is
     (record { units = units_back (charset_of w.encoding n) (units_of w.encoding n) (length (text_bytes (charset_of w.encoding n) cs)) size_is; text = text_is })
-
-text_some : (e : StringEncoding) → 0 < text_align e
-text_some encoding.Utf8 = omega arith
-text_some encoding.Utf16 = omega arith
-text_some encoding.Latin1OrUtf16 = omega arith
 
 pub text_tells : (w : View) (target : StringEncoding) (at n : ℕ) (cs : List ℕ) → ShowsText w.encoding w.memory at n cs
     → Tells w target (text_record w.encoding target at n (text cs)) (text_part cs) at

@@ -1,5 +1,5 @@
 -- What is made of values that core values pass, one after another.
-use Rattle.std.proofs.Common.{◌≡◌, ℕ, zero, suc, ◌+◌, ◌-◌, ◌<◌, ◌≤◌, List, [], ◌∷◌, ◌++◌, length, map, drop, get_or, add-one, drop-cons, Option, Some, None, Ok, Err, Result, refl, sym, ap, ◌∙◌, arith, IfSome, subst}
+use Rattle.std.proofs.Common.{◌≡◌, ℕ, zero, suc, ◌+◌, ◌-◌, ◌<◌, ◌≤◌, List, [], ◌∷◌, ◌++◌, length, map, drop, get_or, Option, Some, None, Ok, Err, Result, refl, sym, ap, ◌∙◌, arith, IfSome, subst}
 use Rattle.cm_types.specs.declared.core_value.CoreValue.{CoreValue}
 use Rattle.cm_types.specs.Values.{Val, Vals, no_vals, val, bare, bearing, elements, parts}
 use Rattle.cm_handles.specs.Handles.{Handles}
@@ -14,7 +14,7 @@ use Rattle.cm_abi_model.specs.declared.encoding.StringEncoding.{StringEncoding}
 use Rattle.cm_abi_model.specs.declared.fault.AbiFault.TheVariants as fault
 use Rattle.cm_abi_model.specs.Numbers.{wrapped_at}
 use Rattle.cm_abi_load.specs.declared.stop.Stop.{Stop}
-use Rattle.cm_abi_load.specs.Outcomes.{Outcome, State, mapped, ◌>>=◌}
+use Rattle.cm_abi_load.specs.Outcomes.{Outcome, State, mapped}
 use Rattle.cm_abi_model.specs.declared.record.PartRecord.{PartRecord}
 use Rattle.cm_abi_load.specs.Making.{IsRead, KeepsHandles, Makes, StopsMaking, with_last}
 use Rattle.cm_abi_load.specs.Reading.{Source, leaf_value, read_at, read_elements, read_handle, read_text}
@@ -23,21 +23,12 @@ use Rattle.cm_abi_load.specs.Sized.{ArePartsSized, ArePayloadsSized, IsSized, co
 use Rattle.cm_abi_lift.specs.FlatReading.{ArePartsFlatReadable, ArePayloadsFlatReadable, IsFlatReadable, IsFlatReadableLayout, read_flat, read_flat_case, read_flat_each, read_flat_parts, read_flat_payload}
 use Rattle.cm_abi_lift.specs.FlatRecords.{flat_records, flat_records_each, flat_records_of_case, flat_records_of_cases, flat_records_of_fields, flat_records_of_payload}
 use Rattle.cm_abi_load.specs.MakingLaws.{Going, begins, ends, one_stops, read_is, turns}
-use Rattle.cm_abi_lift.proofs.MakingLemmas.{Agree, agreed}
+use Rattle.cm_abi_load.proofs.CaseLemmas.{Agree, agreed}
+use Rattle.cm_lemmas.proofs.Lists.{drop_past}
+use Rattle.cm_abi_load.proofs.HandleLemmas.{keeps_mapped, keeps_then}
+use Rattle.cm_layout.proofs.LayoutsLaws.{parts_next}
 
 -- ---- handles that were met stay met
-
-pub keeps_from : {A : Type 0} (s behind : State) (r : Outcome A) → length s.handles ≤ length behind.handles → KeepsHandles behind r → KeepsHandles s r
-keeps_from s behind (Ok x) le h = omega (arith, le, h)
-keeps_from s behind (Err e) le h = tt
-
-pub keeps_mapped : {A B : Type 0} (f : A → B) (s : State) (r : Outcome A) → KeepsHandles s r → KeepsHandles s (mapped f r)
-keeps_mapped f s (Ok x) h = h
-keeps_mapped f s (Err e) h = tt
-
-pub keeps_then : {A B : Type 0} (s : State) (r : Outcome A) (f : A × State → Outcome B) → KeepsHandles s r → ((x : A × State) → KeepsHandles x.1 (f x)) → KeepsHandles s (r >>= f)
-keeps_then s (Ok x) f h more = keeps_from s x.1 (f x) h (more x)
-keeps_then s (Err e) f h more = tt
 
 -- what reading in memory keeps
 pub record KeepLaws : Type 0 where
@@ -133,12 +124,6 @@ each_ends stand keeps P Q width count i slots all F row old now s t past far =
 
 -- ---- fields
 
-parts_next : (ps : List Part) (i : ℕ) (p : Part) → i < length ps → p ≡ get_or ps i p
-    → parts_from (map part_of (drop i ps)) ≡ part (part_of p).0 (part_of p).1.head (part_of p).1.shape (parts_from (map part_of (drop (i + 1) ps)))
-parts_next ps i p lt is =
-    let split : drop i ps ≡ p ∷ drop (i + 1) ps = rw (add-one, drop-cons ps i p lt, ← is) refl in
-    rw split refl
-
 pub fields_turn : {A B K : Type 0} (stands : A → Val → Type 0) (stand : B → Vals → Type 0) (keeps : K → List PartRecord → K → Type 0)
     (both : (a b c : K) (rs ss : List PartRecord) → keeps a rs b → keeps b ss c → keeps a (rs ++ ss) c) (laws : KeepLaws)
     (w : Source) (target : StringEncoding) (ps : List Part) (i : ℕ) (slots behind : List CoreValue) (p : Part) (all : Outcome Vals) (F : Vals → List PartRecord)
@@ -173,12 +158,6 @@ fields_stop stand keeps allocates laws w target ps i slots p all F row old now s
     subst (λ z. Going stand keeps row old now s t all (read_flat_parts w z slots t) F (flat_records_of_fields w target z slots)) (parts_next ps i p lt there) far in
     one_stops stand keeps allocates (flat_records w target (part_of p).1.shape slots) F (flat_records_of_fields w target whole slots) (flat_records_of_fields w target rest next) (read_flat w (part_of p).1.shape slots t) (λ z. read_flat_parts w rest next z) all row old now s t u e (λ v vs. refl) so_far
     (λ z. keeps_fields laws w rest next z) stops
-
-drop_past : {X : Type 0} (xs : List X) (i : ℕ) → length xs ≤ i → drop i xs ≡ []
-drop_past [] zero past = refl
-drop_past [] (suc i) past = refl
-drop_past (x ∷ xs) zero past = absurd (omega arith)
-drop_past (x ∷ xs) (suc i) past = drop_past xs i (omega arith)
 
 pub fields_end : {B K : Type 0} (stand : B → Vals → Type 0) (keeps : K → List PartRecord → K → Type 0)
     (w : Source) (target : StringEncoding) (ps : List Part) (i : ℕ) (slots : List CoreValue) (all : Outcome Vals) (F : Vals → List PartRecord)

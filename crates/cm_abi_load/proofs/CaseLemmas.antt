@@ -135,20 +135,20 @@ fields_made stands stand keeps F r t row made old new is so =
 
 -- ---- cases
 
-abbrev Agree : {V : Type 0} → (V → List PartRecord) → (V → List PartRecord) → Outcome V → Type 0
+abbrev pub Agree : {V : Type 0} → (V → List PartRecord) → (V → List PartRecord) → Outcome V → Type 0
 Agree R S (Ok x) = R x.0 ≡ S x.0
 Agree R S (Err e) = ⊤
 
-agreed_read : {A V K : Type 0} (stands : A → V → Type 0) (keeps : K → List PartRecord → K → Type 0) (R S : V → List PartRecord) (r : Outcome V) (old new : K) (t : State) (made : A)
+pub agreed_read : {A V K : Type 0} (stands : A → V → Type 0) (keeps : K → List PartRecord → K → Type 0) (R S : V → List PartRecord) (r : Outcome V) (old new : K) (t : State) (made : A)
     → Agree R S r → IsRead r t (λ v. stands made v × keeps old (R v) new) → IsRead r t (λ v. stands made v × keeps old (S v) new)
 agreed_read stands keeps R S (Ok x) old new t made same is = (is.0, (is.1.0, subst (λ rs. keeps old rs new) same is.1.1))
 agreed_read stands keeps R S (Err e) old new t made same is = absurd is
 
-agreed_more : {V : Type 0} (R S : V → List PartRecord) (s : State) (r : Outcome V) → Agree R S r → HasMore R s r → HasMore S s r
+pub agreed_more : {V : Type 0} (R S : V → List PartRecord) (s : State) (r : Outcome V) → Agree R S r → HasMore R s r → HasMore S s r
 agreed_more R S s (Ok x) same more = omega (arith, more, ap length same)
 agreed_more R S s (Err e) same more = tt
 
-agreed_stop : {V : Type 0} (allocates : Type 0) (R S : V → List PartRecord) (r : Outcome V) (s t : State) (e : Stop) → Agree R S r → StopsMaking allocates R r s t e → StopsMaking allocates S r s t e
+pub agreed_stop : {V : Type 0} (allocates : Type 0) (R S : V → List PartRecord) (r : Outcome V) (s t : State) (e : Stop) → Agree R S r → StopsMaking allocates R r s t e → StopsMaking allocates S r s t e
 agreed_stop allocates R S r s t stop.Memory same (inl all) = inl all
 agreed_stop allocates R S r s t stop.Memory same (inr more) = inr (agreed_more R S s r same more)
 agreed_stop allocates R S r s t (stop.Fault f) same is = is

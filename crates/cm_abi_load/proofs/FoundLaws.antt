@@ -1,13 +1,12 @@
 -- Bytes that show a value are read as it, where its content is within what is left.
-use Rattle.std.proofs.Common.{◌≡◌, ℕ, zero, suc, ◌+◌, ◌-◌, ◌*◌, ◌%◌, ◌≤◌, ◌==◌, true, List, length, Some, Ok, refl, sym, ap, subst, ◌∙◌, arith}
+use Rattle.std.proofs.Common.{◌≡◌, ℕ, zero, suc, ◌+◌, ◌-◌, ◌*◌, ◌≤◌, List, length, Some, Ok, refl, sym, ap, subst, ◌∙◌, arith}
 use Rattle.std.specs.Prelude.{if◌then◌else◌}
-use Rattle.std.proofs.Math.Nat.{mul-mod_left}
-use Rattle.std.proofs.lemmas.Bool.{and_from, le-ltb}
+use Rattle.std.proofs.lemmas.Bool.{le-ltb}
 use Rattle.cm_types.specs.declared.resource.ResourceId.{ResourceId}
 use Rattle.cm_types.specs.Types.{Ty, Fields, Cases, bool, signed, unsigned, char, string, list, fixed_list, fields, cases, flags, own, borrow, no_fields, field, no_cases, plain, carrying}
 use Rattle.cm_types.specs.Values.{HandleValue, Val, Vals, IsScalarValue, no_vals, val, truth, signed_number, number, scalar, text, elements, parts, bare, bearing, flag_set, handle, count_of, IsPlainCase}
 use Rattle.cm_types.specs.TypedValues.{is_scalar_value}
-use Rattle.cm_handles.specs.Handles.{Handles, handle_at, is_same_resource, look_up, of_resource}
+use Rattle.cm_handles.specs.Handles.{Handles, handle_at, look_up, of_resource}
 use Rattle.cm_handles.specs.declared.handle.Handle.{Handle}
 use Rattle.cm_layout.specs.declared.heads.Head.{Head}
 use Rattle.cm_layout.specs.declared.layouts.HandleType.TheVariants as handle_type
@@ -25,9 +24,13 @@ use Rattle.cm_abi_load.specs.Decoded.{decoded}
 use Rattle.cm_abi_load.specs.Decoding.{text_decoded}
 use Rattle.cm_abi_load.specs.Outcomes.{Outcome, State, mapped, ◌>>=◌}
 use Rattle.cm_abi_load.specs.Reading.{after_meeting, after_text, read_at, read_case, read_each, read_elements, read_handle, read_parts, read_text, region, seen_by, text_value, value_of_handle}
-use Rattle.cm_abi_load.proofs.MeetLaws.{content_both}
-use Rattle.cm_abi_load.proofs.ReadLaws.{as_handle, read_shows}
+use Rattle.cm_abi_load.proofs.ReadLaws.{read_shows}
 use Rattle.cm_abi_load.proofs.ShownLaws.{IsTold, read_err, read_ok}
+use Rattle.cm_handles.proofs.HandleLaws.{as_read}
+use Rattle.cm_abi_model.proofs.TakenLemmas.{content_both}
+use Rattle.cm_abi_model.proofs.TextsLaws.{multiple}
+use Rattle.cm_handles.proofs.HandlesLaws.{same_true}
+use Rattle.cm_types.proofs.TypedValueLaws.{scalar_complete}
 
 -- reading comes to a value
 pub record Found {A : Type 0} (r : Outcome A) (v : A) : Type 0 where
@@ -41,9 +44,6 @@ pub mapped_found : {A B : Type 0} (f : A → B) (r : Outcome A) (v : A) → Foun
 mapped_found f r v x = record { after = x.after; is = ap (mapped f) x.is }
 
 -- ---- regions
-
-multiple : (align at : ℕ) → IsAligned align at → (at % align == 0) ≡ true
-multiple align at is = ap (λ n. n % align == 0) is.1 ∙ ap (λ n. n == 0) (mul-mod_left is.0 align)
 
 pub region_there : (memory : List ℕ) (align at size : ℕ) (s : State) → IsAligned align at → at + size ≤ length memory → size ≤ s.left
     → region memory align at size s ≡ Ok (tt, record s { left = s.left - size })
@@ -105,26 +105,16 @@ elements_found R S T M told one memory h at n s vs shown room =
 
 -- ---- chars
 
-some_side : (c : ℕ) → IsScalarValue c → is_scalar_value c ≡ true
-some_side c is = grind (arith, is)
-
 pub char_found : (c : ℕ) (s : State) → IsScalarValue c → (if is_scalar_value c then read_ok (scalar c) s else read_err fault.BadChar s) ≡ read_ok (scalar c) s
-char_found c s is = rw (some_side c is) refl
+char_found c s is = rw (scalar_complete c is) refl
 
 -- ---- handles
-
-eq_true : (a b : ℕ) → a ≡ b → (a == b) ≡ true
-eq_true a b e = grind (arith, e)
-
-same_true : (a b : ResourceId) → a ≡ b → is_same_resource a b ≡ true
-same_true a b e = and_from (a.component == b.component) (a.number == b.number)
-    (eq_true a.component b.component (ap (λ (r : ResourceId). r.component) e)) (eq_true a.number b.number (ap (λ (r : ResourceId). r.number) e))
 
 looked : (table : Handles) (index : ℕ) (r : ResourceId) (h : Handle) → handle_at table index ≡ Some h → h.resource ≡ r → look_up table index r ≡ Ok h
 looked table index r h stands of = ap (λ o. of_resource o r) stands ∙ (rw (same_true h.resource r of) refl)
 
-as_value : (h : Handle) (r : ResourceId) (v : HandleValue) → h.resource ≡ r → v ≡ as_handle h r → value_of_handle h ≡ handle v
-as_value h r v of is = ap (λ x. handle (as_handle h x)) of ∙ ap handle (sym is)
+as_value : (h : Handle) (r : ResourceId) (v : HandleValue) → h.resource ≡ r → v ≡ as_read h r → value_of_handle h ≡ handle v
+as_value h r v of is = ap (λ x. handle (as_read h x)) of ∙ ap handle (sym is)
 
 pub own_found : (table : Handles) (index : ℕ) (r : ResourceId) (v : HandleValue) (s : State) → ShowsOwned table index r v → Found (read_handle table (handle_type.Own r) index s) (handle v)
 unfolding read_handle

@@ -3,8 +3,6 @@ pub mod HandleLemmas
 pub mod MakingLemmas
 pub mod CaseLemmas
 pub mod TreeLemmas
-pub mod Seen
-pub mod SeenLayouts
 pub mod SizedLaws
 pub mod MeetLaws
 pub mod ShownLaws

@@ -1,5 +1,5 @@
 -- Parts that are laid out are read: fields and cases.
-use Rattle.std.proofs.Common.{◌≡◌, ℕ, zero, suc, ◌+◌, ◌*◌, ◌<◌, ◌≤◌, List, [], ◌∷◌, length, map, drop, get_or, add-one, drop-cons, Option, Some, None, Ok, Err, refl, sym, ap, ◌∙◌, arith, IfSome, subst}
+use Rattle.std.proofs.Common.{◌≡◌, ℕ, zero, suc, ◌+◌, ◌*◌, ◌<◌, ◌≤◌, List, [], ◌∷◌, length, map, drop, get_or, Option, Some, None, Ok, Err, refl, sym, ap, ◌∙◌, arith, IfSome, subst}
 use Rattle.cm_types.specs.Values.{Val, bare}
 use Rattle.cm_layout.specs.Laid.{Laid, PartsLaid, PayloadsLaid}
 use Rattle.cm_layout.specs.Layouts.{part_of, nothings}
@@ -11,12 +11,7 @@ use Rattle.cm_abi_load.specs.Outcomes.{State}
 use Rattle.cm_abi_load.specs.Reading.{Source, read_case, read_payload}
 use Rattle.cm_abi_load.specs.Records.{records_of_case, records_of_payload}
 use Rattle.cm_abi_load.specs.Sized.{ArePartsReadable, ArePartsSized, ArePayloadsReadable, ArePayloadsSized, IsReadable, IsSized}
-
-pub parts_next : (ps : List Part) (i : ℕ) (p : Part) → i < length ps → p ≡ get_or ps i p
-    → parts_from (map part_of (drop i ps)) ≡ part (part_of p).0 (part_of p).1.head (part_of p).1.shape (parts_from (map part_of (drop (i + 1) ps)))
-parts_next ps i p lt is =
-    let split : drop i ps ≡ p ∷ drop (i + 1) ps = rw (add-one, drop-cons ps i p lt, ← is) refl in
-    rw split refl
+use Rattle.cm_layout.proofs.LayoutsLaws.{parts_next}
 
 pub readable_next : (limit at : ℕ) (ps : List Part) (i : ℕ) (p : Part) → i < length ps → p ≡ get_or ps i p
     → ArePartsReadable limit at (parts_from (map part_of (drop i ps)))
@@ -88,12 +83,6 @@ enum_past w (suc count) i (suc n) p s past = enum_past w count i n p s (omega ar
 
 pub step_on : (next at i size step : ℕ) → step ≡ size → next ≡ at + i * size → next + step ≡ at + (i + 1) * size
 step_on next at i size step e f = rw (e, f) (grind arith)
-
-pub drop_past : {X : Type 0} (xs : List X) (i : ℕ) → length xs ≤ i → drop i xs ≡ []
-drop_past [] zero past = refl
-drop_past [] (suc i) past = refl
-drop_past (x ∷ xs) zero past = absurd (omega arith)
-drop_past (x ∷ xs) (suc i) past = drop_past xs i (omega arith)
 
 -- ---- their records
 

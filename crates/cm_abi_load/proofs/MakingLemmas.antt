@@ -14,7 +14,8 @@ use Rattle.cm_abi_load.specs.MakingLaws.{Going, begins, ends, one_stops, turns}
 use Rattle.cm_abi_load.specs.Reading.{Source, read_at, read_each, read_parts}
 use Rattle.cm_abi_load.specs.Records.{records_at, records_each, records_of_fields}
 use Rattle.cm_abi_load.proofs.HandleLemmas.{keeps_at, keeps_each, keeps_parts}
-use Rattle.cm_abi_load.proofs.LoadLemmas.{drop_past, parts_next}
+use Rattle.cm_lemmas.proofs.Lists.{drop_past}
+use Rattle.cm_layout.proofs.LayoutsLaws.{parts_next}
 
 -- ---- stops
 

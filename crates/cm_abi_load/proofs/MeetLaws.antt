@@ -1,25 +1,19 @@
 -- What is met, one after another.
-use Rattle.std.proofs.Common.{◌≡◌, ℕ, ◌+◌, ◌-◌, ◌≤◌, List, [], ◌∷◌, ◌++◌, map, Some, refl, sym, ap, ◌∙◌, arith}
+use Rattle.std.proofs.Common.{◌≡◌, ℕ, ◌-◌, ◌≤◌, List, [], ◌∷◌, ◌++◌, map, Some, refl, sym, ap, ◌∙◌, arith}
 use Rattle.std.proofs.lemmas.List.{append-nil, append_assoc, map-append}
 use Rattle.cm_handles.specs.Handles.{Handles, handle_at}
 use Rattle.cm_handles.specs.declared.handle.Handle.{Handle}
 use Rattle.cm_handles.specs.declared.handle.HandleKind.TheVariants.{Owned}
 use Rattle.cm_types.specs.declared.resource.ResourceId.{ResourceId}
 use Rattle.cm_layout.specs.declared.layouts.HandleType.TheVariants as handle_type
-use Rattle.cm_abi_model.specs.Taken.{Met, text_content, content, taken, lent, content_of, tags_of, met_text}
+use Rattle.cm_abi_model.specs.Taken.{Met, text_content, content, taken, lent, tags_of, met_text}
 use Rattle.cm_abi_load.specs.declared.progress.MetHandle.{MetHandle}
 use Rattle.cm_abi_load.specs.Meeting.{AreAsWanted, Meets, handles_in, met_as}
 use Rattle.cm_abi_load.specs.Outcomes.{State}
 use Rattle.cm_abi_load.specs.Reading.{after_meeting, after_text}
 use Rattle.cm_abi_model.specs.declared.encoding.StringEncoding.{StringEncoding}
 use Rattle.cm_abi_model.specs.Texts.{tag_of, text_size}
-
-pub content_both : (xs ys : List Met) → content_of (xs ++ ys) ≡ content_of xs + content_of ys
-content_both [] ys = let e : content_of ys ≡ 0 + content_of ys = omega arith in e
-content_both (text_content tags n ∷ xs) ys = let e : content_of (xs ++ ys) ≡ content_of xs + content_of ys = content_both xs ys in omega (arith, e)
-content_both (content n ∷ xs) ys = let e : content_of (xs ++ ys) ≡ content_of xs + content_of ys = content_both xs ys in omega (arith, e)
-content_both (taken i ∷ xs) ys = content_both xs ys
-content_both (lent i ∷ xs) ys = content_both xs ys
+use Rattle.cm_abi_model.proofs.TakenLemmas.{content_both, tags_both}
 
 pub handles_both : (xs ys : List Met) → handles_in (xs ++ ys) ≡ handles_in xs ++ handles_in ys
 handles_both [] ys = refl
@@ -27,13 +21,6 @@ handles_both (text_content tags n ∷ xs) ys = handles_both xs ys
 handles_both (content n ∷ xs) ys = handles_both xs ys
 handles_both (taken i ∷ xs) ys = ap (λ zs. taken i ∷ zs) (handles_both xs ys)
 handles_both (lent i ∷ xs) ys = ap (λ zs. lent i ∷ zs) (handles_both xs ys)
-
-tags_both : (xs ys : List Met) → tags_of (xs ++ ys) ≡ tags_of xs ++ tags_of ys
-tags_both [] ys = refl
-tags_both (text_content tags n ∷ xs) ys = ap (λ zs. tags ++ zs) (tags_both xs ys) ∙ sym (append_assoc tags (tags_of xs) (tags_of ys))
-tags_both (content n ∷ xs) ys = tags_both xs ys
-tags_both (taken i ∷ xs) ys = tags_both xs ys
-tags_both (lent i ∷ xs) ys = tags_both xs ys
 
 wanted_both : (t : Handles) (xs ys : List MetHandle) → AreAsWanted t xs → AreAsWanted t ys → AreAsWanted t (xs ++ ys)
 wanted_both t [] ys a b = b

@@ -1,7 +1,6 @@
 -- What is read at an address is what the bytes there show.
-use Rattle.std.proofs.Common.{◌≡◌, ℕ, zero, suc, ◌+◌, ◌-◌, ◌≤◌, ◌==◌, Bool, true, false, List, [], ◌∷◌, Option, Some, None, Result, Ok, Err, refl, sym, ap, subst, ◌∙◌}
+use Rattle.std.proofs.Common.{◌≡◌, ℕ, zero, suc, ◌+◌, ◌-◌, ◌≤◌, Bool, true, false, List, [], ◌∷◌, Option, Some, None, Result, Ok, Err, refl, sym, ap, subst, ◌∙◌}
 use Rattle.std.specs.Prelude.{if◌then◌else◌}
-use Rattle.std.proofs.lemmas.Bool.{and_parts, eqb-true}
 use Rattle.cm_types.specs.declared.resource.ResourceId.{ResourceId}
 use Rattle.cm_types.specs.Types.{Ty, Fields, Cases, CasesKind, bool, signed, unsigned, char, string, list, fixed_list, fields, cases, flags, own, borrow, no_fields, field, no_cases, plain, carrying}
 use Rattle.cm_types.specs.Values.{HandleValue, Val, Vals, no_vals, val, text, elements, parts, bare, bearing, handle, IsPlainCase}
@@ -29,6 +28,8 @@ use Rattle.cm_abi_load.specs.Reading.{after_meeting, after_text, handle_value, r
 use Rattle.cm_abi_load.specs.Decoding.{decoded_text}
 use Rattle.cm_abi_load.proofs.MeetLaws.{meets_both, meets_borrow, meets_none, meets_own, meets_text}
 use Rattle.cm_abi_load.proofs.ShownLaws.{bind_ok, char_ok, each_shown, elements_shown, mapped_ok, moved, read_ok, region_ok}
+use Rattle.cm_handles.proofs.HandleLaws.{as_read}
+use Rattle.cm_handles.proofs.HandlesLaws.{same_is}
 
 -- what is read at an address is shown there, and what is met in it is told
 abbrev pub Told : View → Ty → ℕ → State → Val → State → Type 0
@@ -48,13 +49,6 @@ text_shown P memory e at n s t v is h =
     text_found P (decoded (charset_of e n) (bytes_from memory at (text_size e n))) (after_text e n first.0.1) t v first.2 (λ cs found. subst (λ x. P (text cs) (after_text e n x)) there.counted
     (h cs (record { aligned = there.aligned; inside = there.inside; text = decoded_text (charset_of e n) cs (bytes_from memory at (text_size e n)) found }) there.room))
 
--- handles
-same_is : (a b : ResourceId) → is_same_resource a b ≡ true → a ≡ b
-same_is a b e =
-    let both = and_parts (a.component == b.component) (a.number == b.number) e in
-    ap (λ n. record { component = n; number = a.number }) (eqb-true a.component b.component both.0)
-    ∙ ap (λ n. record { component = b.component; number = n }) (eqb-true a.number b.number both.1)
-
 found_of : (o : Option Handle) (r : ResourceId) (h : Handle) → of_resource o r ≡ Ok h → (o ≡ Some h) × (h.resource ≡ r)
 found_of None r h e = absurd (cc)
 found_of (Some x) r h e = picked (is_same_resource x.resource r) refl e
@@ -68,11 +62,8 @@ owned_of : (P : Val → State → Type 0) (h : Handle) (k : HandleKind) → h.ki
 owned_of P h Owned kind s t e v is go = moved P (value_of_handle h) v s t is (go kind)
 owned_of P h (Borrowed call) kind s t e v is go = absurd (cc)
 
-abbrev pub as_handle : Handle → ResourceId → HandleValue
-as_handle h r = record { serial = h.serial; rep = h.rep; resource = r }
-
-shown_as : (h : Handle) (r : ResourceId) → h.resource ≡ r → as_handle h h.resource ≡ as_handle h r
-shown_as h r e = ap (as_handle h) e
+shown_as : (h : Handle) (r : ResourceId) → h.resource ≡ r → as_read h h.resource ≡ as_read h r
+shown_as h r e = ap (as_read h) e
 
 own_shown : (P : Val → State → Type 0) (table : Handles) (index : ℕ) (r : ResourceId) (s t : State) (v : Val) (looked : Result Handle HandleFault) → look_up table index r ≡ looked
     → handle_value (handle_type.Own r) looked s ≡ Ok (v, t) → ((h : Handle) → handle_at table index ≡ Some h → h.resource ≡ r → h.kind ≡ Owned → P (value_of_handle h) s) → P v t
@@ -99,11 +90,11 @@ borrow_shown P table index r s t v (Ok h) e is go =
     moved P (value_of_handle h) v s t is (go h found.0 found.1)
 
 handle_is : (table : Handles) (index : ℕ) (r : ResourceId) (h : Handle) → handle_at table index ≡ Some h → h.resource ≡ r
-    → ShowsHandle table index r (as_handle h h.resource)
+    → ShowsHandle table index r (as_read h h.resource)
 handle_is table index r h stands of = record { entry = h; stands = stands; of_resource = of; value = shown_as h r of }
 
 own_is : (table : Handles) (index : ℕ) (r : ResourceId) (h : Handle) → handle_at table index ≡ Some h → h.resource ≡ r → h.kind ≡ Owned
-    → ShowsOwned table index r (as_handle h h.resource)
+    → ShowsOwned table index r (as_read h h.resource)
 unfolding handle_is
 own_is table index r h stands of kind = record { handle = handle_is table index r h stands of; owned = kind }
 

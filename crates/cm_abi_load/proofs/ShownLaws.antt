@@ -1,8 +1,7 @@
 -- What is read is what the bytes show.
-use Rattle.std.proofs.Common.{◌≡◌, ℕ, zero, suc, ◌+◌, ◌-◌, ◌*◌, ◌/◌, ◌%◌, ◌<◌, ◌≤◌, ◌==◌, Bool, true, false, not, List, ◌∷◌, length, Ok, Err, refl, sym, ap, subst, ◌⊎◌, arith, nat_lt, inl, inr}
+use Rattle.std.proofs.Common.{◌≡◌, ℕ, zero, suc, ◌+◌, ◌-◌, ◌*◌, ◌%◌, ◌≤◌, ◌==◌, Bool, true, false, not, List, ◌∷◌, length, Ok, Err, refl, sym, ap, subst, arith, nat_lt}
 use Rattle.std.specs.Prelude.{if◌then◌else◌, ⊤}
-use Rattle.std.proofs.Math.Nat.{div-add-mod, mul_comm}
-use Rattle.std.proofs.lemmas.Bool.{and_parts, eqb-true, ltb-false, ltb-true, or_cases}
+use Rattle.std.proofs.lemmas.Bool.{ltb-false}
 use Rattle.cm_types.specs.Values.{Val, Vals, IsScalarValue, no_vals, val, scalar, count_of}
 use Rattle.cm_types.specs.TypedValues.{is_scalar_value}
 use Rattle.cm_layout.specs.declared.heads.Head.{Head}
@@ -16,6 +15,8 @@ use Rattle.cm_abi_load.specs.Meeting.{Meets}
 use Rattle.cm_abi_load.specs.Outcomes.{Outcome, State, mapped, ◌>>=◌}
 use Rattle.cm_abi_load.specs.Reading.{read_each, read_elements, region}
 use Rattle.cm_abi_load.proofs.MeetLaws.{meets_both, meets_content, meets_none}
+use Rattle.cm_abi_model.proofs.TextsLaws.{aligned}
+use Rattle.cm_types.proofs.TypedValueLaws.{scalar_sound}
 
 -- ---- outcomes
 
@@ -50,12 +51,7 @@ pub record Region (memory : List ℕ) (align at size : ℕ) (s after : State) : 
   pub room : size ≤ s.left
   pub counted : record s { left = s.left - size } ≡ after
 
-aligned : (align at : ℕ) → (at % align == 0) ≡ true → IsAligned align at
-aligned align at e =
-    let z : at % align ≡ 0 = eqb-true (at % align) 0 e in
-    (at / align, omega (arith, div-add-mod at align, mul_comm align (at / align)))
-
-region_tests : (a b c : Bool) (x y z : AbiFault × State) (v r : ⊤ × State)
+pub region_tests : (a b c : Bool) (x y z : AbiFault × State) (v r : ⊤ × State)
     → (if not a then Err x else (if b then Err y else (if c then Err z else Ok v))) ≡ Ok r → (a ≡ true) × (b ≡ false) × (c ≡ false) × (v.1 ≡ r.1)
 region_tests true false false x y z v r e = let same : v ≡ r = cc in (refl, refl, refl, ap (λ (w : ⊤ × State). w.1) same)
 region_tests true false true x y z v r e = absurd (cc)
@@ -107,15 +103,6 @@ elements_shown R S T M one memory h at n s t vs e =
 
 -- ---- chars
 
-scalar_true : (c : ℕ) → is_scalar_value c ≡ true → IsScalarValue c
-scalar_true c e =
-    let both = and_parts (nat_lt c 0x110000) _ e in
-    (ltb-true c 0x110000 both.0, sides (or_cases (nat_lt c 0xD800) (nat_lt 0xDFFF c) both.1))
-  where
-    sides : (nat_lt c 0xD800 ≡ true) ⊎ (nat_lt 0xDFFF c ≡ true) → (c < 0xD800) ⊎ (0xDFFF < c)
-    sides (inl a) = inl (ltb-true c 0xD800 a)
-    sides (inr b) = inr (ltb-true 0xDFFF c b)
-
 char_is : (P : Val → State → Type 0) (b : Bool) (c : ℕ) (s t : State) (v : Val) → (if b then read_ok (scalar c) s else read_err fault.BadChar s) ≡ read_ok v t
     → (b ≡ true → P (scalar c) s) → P v t
 char_is P true c s t v e h = moved P (scalar c) v s t e (h refl)
@@ -123,4 +110,4 @@ char_is P false c s t v e h = absurd (cc)
 
 pub char_ok : (P : Val → State → Type 0) (c : ℕ) (s t : State) (v : Val) → (if is_scalar_value c then read_ok (scalar c) s else read_err fault.BadChar s) ≡ read_ok v t
     → (IsScalarValue c → P (scalar c) s) → P v t
-char_ok P c s t v e h = char_is P (is_scalar_value c) c s t v e (λ is. h (scalar_true c is))
+char_ok P c s t v e h = char_is P (is_scalar_value c) c s t v e (λ is. h (scalar_sound c is))

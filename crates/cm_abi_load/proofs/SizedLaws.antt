@@ -6,6 +6,8 @@ use Rattle.cm_layout.specs.Alignment.{align_to}
 use Rattle.cm_layout.specs.Sizes.{align_of, align_of_fields, align_of_payloads, case_count, size_of}
 use Rattle.cm_layout.specs.Shapes.{shape_of_type, parts_at, parts_from, payloads_of, payloads_from}
 use Rattle.cm_abi_load.specs.Sized.{IsNumberSize, IsSized, ArePartsSized, ArePayloadsSized}
+use Rattle.cm_lemmas.proofs.Bools.{picked_pos}
+use Rattle.cm_types.proofs.TypesLaws.{width_pos}
 
 width_sized : (w : Width) → IsNumberSize (width_bytes w)
 width_sized bits_8 = inl refl
@@ -13,21 +15,10 @@ width_sized bits_16 = inr (inl refl)
 width_sized bits_32 = inr (inr (inl refl))
 width_sized bits_64 = inr (inr (inr refl))
 
-width_pos : (w : Width) → 0 < width_bytes w
-width_pos bits_8 = omega arith
-width_pos bits_16 = omega arith
-width_pos bits_32 = omega arith
-width_pos bits_64 = omega arith
-
 picked : (a b : Bool) → IsNumberSize (if a then 1 else if b then 2 else 4) × ((if a then 1 else if b then 2 else 4) ≤ 4)
 picked true b = (inl refl, omega arith)
 picked false true = (inr (inl refl), omega arith)
 picked false false = (inr (inr (inl refl)), omega arith)
-
-picked_pos : (a b : Bool) → 0 < (if a then 1 else if b then 2 else 4)
-picked_pos true b = omega arith
-picked_pos false true = omega arith
-picked_pos false false = omega arith
 
 mutual
   pub align_pos : (t : Ty) → 0 < align_of t

@@ -1,9 +1,8 @@
 -- What a reader of a text answers.
-use Rattle.std.proofs.Common.{◌≡◌, ℕ, Bool, true, false, ◌&&◌, List, Option, Some, None, refl, sym, ap, ◌∙◌, nat_lt}
+use Rattle.std.proofs.Common.{◌≡◌, ℕ, Bool, true, false, ◌&&◌, List, Option, Some, None, refl, ◌∙◌, nat_lt}
 use Rattle.std.specs.Prelude.{if◌then◌else◌, Ok}
 use Rattle.std.proofs.lemmas.Bool.{and_parts}
 use Rattle.std.proofs.lemmas.Slice.Eq.{bytes_eq-Decides}
-use Rattle.std.proofs.lemmas.Str.{chars-encodes}
 use Rattle.std.specs.Char.{IsScalar}
 use Rattle.std.specs.List.{AllByRecursion, list_all}
 use Rattle.std.specs.Str.{IsUtf8, all_scalars, bytes_eq, chars}
@@ -39,10 +38,6 @@ none_8 bytes never = is_none utf8 bytes (chars bytes) (λ cs all is. never cs (r
 
 pub utf8_of : (cs bytes : List ℕ) → IsText IsScalar spell_utf8 cs bytes → IsUtf8 bytes
 utf8_of cs bytes t = (cs, (from_all cs t.all, spelled cs ∙ t.is))
-
--- the scalars of a text in UTF-8
-pub same_chars : (cs bytes : List ℕ) → IsText IsScalar spell_utf8 cs bytes → cs ≡ chars bytes
-same_chars cs bytes t = sym (ap chars (sym (spelled cs ∙ t.is)) ∙ chars-encodes cs (from_all cs t.all))
 
 pub none_16 : (bytes : List ℕ) → ((cs : List ℕ) → IsText IsScalar spell_utf16 cs bytes → ⊥) → decoded utf16 bytes ≡ None
 unfolding decoded

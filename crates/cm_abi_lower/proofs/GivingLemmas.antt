@@ -17,6 +17,7 @@ use Rattle.cm_abi_model.specs.Giving.{AllGiven, AllStay, Gives, IsGivenAt, IsVie
 use Rattle.cm_abi_model.specs.HandleLeaves.{leaf_of, leaves_of}
 use Rattle.cm_abi_model.specs.declared.leaf.HandleLeaf.{HandleLeaf as CodedLeaf}
 use Rattle.cm_abi_model.specs.declared.receiver.Receiver.{Receiver}
+use Rattle.cm_lemmas.proofs.Lists.{drop_past, take_all}
 
 pub next_leaf : (ls : List CodedLeaf) (i : ℕ) (d : CodedLeaf) → i < length ls → leaves_of (drop i ls) ≡ leaf_of (get_or ls i d) ∷ leaves_of (drop (i + 1) ls)
 next_leaf ls i d lt = rw (add-one, drop-cons ls i d lt) refl
@@ -28,18 +29,6 @@ count_next to ls i d lt = rw (next_leaf ls i d lt) refl
 pub room_next : (to : Receiver) (ls : List CodedLeaf) (i room behind : ℕ) (d : CodedLeaf) → i < length ls → added_count to (leaves_of (drop i ls)) ≤ room
     → room ≤ behind + added_by (added_for to (leaf_of (get_or ls i d))) → added_count to (leaves_of (drop (i + 1) ls)) ≤ behind
 room_next to ls i room behind d lt enough less = let next = count_next to ls i d lt in omega (arith, next, enough, less)
-
-drop_past : {X : Type 0} (xs : List X) (i : ℕ) → length xs ≤ i → drop i xs ≡ []
-drop_past [] zero past = refl
-drop_past [] (suc i) past = refl
-drop_past (x ∷ xs) zero past = absurd (omega arith)
-drop_past (x ∷ xs) (suc i) past = drop_past xs i (omega arith)
-
-take_past : {X : Type 0} (xs : List X) (i : ℕ) → length xs ≤ i → take i xs ≡ xs
-take_past [] zero past = refl
-take_past [] (suc i) past = refl
-take_past (x ∷ xs) zero past = absurd (omega arith)
-take_past (x ∷ xs) (suc i) past = ap (λ ys. x ∷ ys) (take_past xs i (omega arith))
 
 length_one : (ns : List ℕ) (n : ℕ) → length (ns ++ n ∷ []) ≡ length ns + 1
 length_one [] n = refl
@@ -234,7 +223,7 @@ one_more to start old new leaves ns behind n i d lt so is number table here stay
 pub all_given : (to : Receiver) (start new : Handles) (leaves : List CodedLeaf) (ns : List ℕ) (i : ℕ) → length leaves ≤ i → SoFar to start leaves new ns i → Gives to start new (leaves_of leaves) ns
 all_given to start new leaves ns i past so =
     let none : drop i leaves ≡ [] = drop_past leaves i past in
-    let all : take i leaves ≡ leaves = take_past leaves i past in
+    let all : take i leaves ≡ leaves = take_all leaves i past in
     record {
       numbers = sym (append-nil ns) ∙ (ap (λ ls. ns ++ numbers_given to new (leaves_of ls)) (sym none) ∙ so.numbers);
       table = ap (λ ls. after_given to new (leaves_of ls)) (sym none) ∙ so.table;

@@ -1,30 +1,21 @@
 -- The handles of a value, one part of it after another.
-use Rattle.std.proofs.Common.{◌≡◌, ℕ, zero, suc, ◌+◌, ◌<◌, ◌≤◌, List, [], ◌∷◌, ◌++◌, length, map, drop, refl, sym, ap, ◌∙◌, arith, get_or, drop-cons, add-one, Some, None, Option}
+use Rattle.std.proofs.Common.{◌≡◌, ℕ, zero, suc, ◌+◌, ◌<◌, ◌≤◌, List, [], ◌∷◌, ◌++◌, length, map, drop, refl, sym, ap, ◌∙◌, arith, get_or, Some, None, Option}
 use Rattle.std.proofs.lemmas.List.{append_assoc}
 use Rattle.cm_types.specs.Types.{Ty, Fields, Cases, bool, signed, unsigned, char, string, list, fixed_list, fields, cases, flags, own, borrow, no_fields, field, no_cases, plain, carrying}
 use Rattle.cm_types.specs.Values.{Val, Vals, no_vals, val, truth, signed_number, number, scalar, text, elements, parts, bare, bearing, flag_set, handle, AllVals, HasType, HaveTypes, IsCarriedCase}
 use Rattle.cm_layout.specs.Alignment.{align_to}
 use Rattle.cm_layout.specs.Layouts.{nothings, part_of}
-use Rattle.cm_layout.specs.Shapes.{LayoutTy, Payloads, cases_shape, part, parts_at, parts_from, payload_before, payloads_from, payloads_of, shape_of_type}
+use Rattle.cm_layout.specs.Shapes.{LayoutTy, Payloads, cases_shape, parts_at, parts_from, payload_before, payloads_from, payloads_of, shape_of_type}
 use Rattle.cm_layout.specs.Sizes.{align_of, size_of}
 use Rattle.cm_layout.specs.declared.layouts.Part.{Part as CodedPart}
 use Rattle.cm_types.specs.ValueTrees.{value_of, values_of}
 use Rattle.cm_types.specs.declared.values.Value.{Value}
 use Rattle.cm_abi_model.specs.Receives.{HandleLeaf, leaves_each, leaves_in, leaves_in_fields, leaves_in_payload}
 use Rattle.cm_abi_lower.specs.Leaves.{leaves_by, leaves_by_case, leaves_by_fields, leaves_by_payload}
+use Rattle.cm_layout.proofs.LayoutsLaws.{parts_next}
+use Rattle.cm_types.proofs.ValueTreesLaws.{values_next}
 
 -- ---- values in a row
-
-values_next : (vs : List Value) (i : ℕ) (v : Value) → i < length vs → v ≡ get_or vs i v → values_of (drop i vs) ≡ val (value_of v) (values_of (drop (i + 1) vs))
-values_next vs i v lt is =
-    let split : drop i vs ≡ v ∷ drop (i + 1) vs = rw (add-one, drop-cons vs i v lt, ← is) refl in
-    rw split refl
-
-parts_next : (ps : List CodedPart) (i : ℕ) (p : CodedPart) → i < length ps → p ≡ get_or ps i p
-    → parts_from (map part_of (drop i ps)) ≡ part (part_of p).0 (part_of p).1.head (part_of p).1.shape (parts_from (map part_of (drop (i + 1) ps)))
-parts_next ps i p lt is =
-    let split : drop i ps ≡ p ∷ drop (i + 1) ps = rw (add-one, drop-cons ps i p lt, ← is) refl in
-    rw split refl
 
 -- one more of some is there
 turn : (done more rest total behind : List HandleLeaf) → behind ≡ done ++ more → done ++ (more ++ rest) ≡ total → behind ++ rest ≡ total

@@ -1,4 +1,3 @@
-pub mod SeenLayouts
 pub mod WalkLemmas
 pub mod LeafLemmas
 pub mod GivingSeenLayouts

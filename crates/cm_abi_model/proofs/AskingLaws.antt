@@ -18,7 +18,11 @@ use Rattle.cm_layout.specs.Sizes.{align_of, size_of}
 use Rattle.cm_abi_model.specs.declared.encoding.StringEncoding.{StringEncoding}
 use Rattle.cm_abi_model.specs.Asking.{AsksToUtf8, AsksToUtf16, IsAscii, again, fresh}
 use Rattle.cm_abi_model.specs.Strings.{utf16_units, utf8_units}
-use Rattle.cm_abi_model.proofs.StringLaws.{latin1_flat, unit_length, units_flat}
+use Rattle.cm_abi_model.proofs.StringLaws.{units_flat}
+use Rattle.cm_lemmas.proofs.Numbers.{lt_true, lt_false}
+use Rattle.cm_text.proofs.PairLemmas.{latin1_spelled}
+use Rattle.cm_text.proofs.TightLemmas.{units_le}
+use Rattle.cm_text.proofs.Utf16Laws.{unit_length}
 
 -- ---- sizes
 
@@ -29,13 +33,10 @@ one_ascii c lt = grind (arith, nat_tests)
 one_more : (c : ℕ) → 0x80 ≤ c → length (encode_utf16 c) < length (spell_utf8 c)
 one_more c le = grind (arith, nat_tests)
 
-no_fewer : (c : ℕ) → length (encode_utf16 c) ≤ length (spell_utf8 c)
-no_fewer c = grind (arith, nat_tests)
-
 all_no_fewer : (cs : List ℕ) → length (utf16_units cs) ≤ length (utf8_units cs)
 all_no_fewer [] = omega arith
 all_no_fewer (c ∷ cs) =
-    omega (arith, no_fewer c, all_no_fewer cs, length-append (encode_utf16 c) (utf16_units cs), length-append (spell_utf8 c) (utf8_units cs))
+    omega (arith, units_le c, all_no_fewer cs, length-append (encode_utf16 c) (utf16_units cs), length-append (spell_utf8 c) (utf8_units cs))
 
 ascii_units : (cs : List ℕ) → AllByRecursion IsAscii cs → length (utf8_units cs) ≡ length (utf16_units cs)
 ascii_units [] h = refl
@@ -47,7 +48,7 @@ other_units [] i lt le = absurd (omega (arith, lt))
 other_units (c ∷ cs) zero lt le =
     omega (arith, one_more c le, all_no_fewer cs, length-append (encode_utf16 c) (utf16_units cs), length-append (spell_utf8 c) (utf8_units cs))
 other_units (c ∷ cs) (suc i) lt le =
-    omega (arith, no_fewer c, other_units cs i (omega (arith, lt)) le, length-append (encode_utf16 c) (utf16_units cs), length-append (spell_utf8 c) (utf8_units cs))
+    omega (arith, units_le c, other_units cs i (omega (arith, lt)) le, length-append (encode_utf16 c) (utf16_units cs), length-append (spell_utf8 c) (utf8_units cs))
 
 -- in Latin-1 a unit is a character
 latin1_one : (c : ℕ) → c < 256 → length (encode_utf16 c) ≡ 1
@@ -70,12 +71,6 @@ asks_filled : (u w x : ℕ) (others : List Request) → nat_lt u x ≡ true → 
     → chain 1 (if nat_lt u x then u ∷ shrunk w x else u ∷ []) ++ others ≡ fresh 1 u ∷ again u 1 w ∷ others
 asks_filled u w x others e f = rw (e, f) refl
 
-pub is_less : (a b : ℕ) → a < b → nat_lt a b ≡ true
-is_less a b lt = grind (arith, nat_tests, lt)
-
-pub not_less : (a b : ℕ) → b ≤ a → nat_lt a b ≡ false
-not_less a b le = grind (arith, nat_tests, le)
-
 -- by how many units there are: as many as those of UTF-16
 to_utf8 : (u n w : ℕ) (cs : List ℕ) (others : List Request) → u ≡ n → n ≡ length (utf16_units cs)
     → AsksToUtf8 n w cs (chain 1 (if nat_lt u (length (utf8_units cs)) then u ∷ shrunk w (length (utf8_units cs)) else u ∷ []) ++ others) others
@@ -83,9 +78,9 @@ to_utf8 u n w cs others e f =
     let x = length (utf8_units cs) in
     subst (λ z. AsksToUtf8 z w cs (chain 1 (if nat_lt u x then u ∷ shrunk w x else u ∷ []) ++ others) others) e
     (record {
-      plain = λ h. asks_plain u x (u ∷ shrunk w x) others (not_less u x (omega (arith, e, f, ascii_units cs h)));
-      grown = λ h lt. asks_grown u w x others (is_less u x (omega (arith, e, f, other_units cs h.0 h.1 h.2))) (is_less x w lt);
-      filled = λ h le. asks_filled u w x others (is_less u x (omega (arith, e, f, other_units cs h.0 h.1 h.2))) (not_less x w le);
+      plain = λ h. asks_plain u x (u ∷ shrunk w x) others (lt_false u x (omega (arith, e, f, ascii_units cs h)));
+      grown = λ h lt. asks_grown u w x others (lt_true u x (omega (arith, e, f, other_units cs h.0 h.1 h.2))) (lt_true x w lt);
+      filled = λ h le. asks_filled u w x others (lt_true u x (omega (arith, e, f, other_units cs h.0 h.1 h.2))) (lt_false x w le);
     })
 
 pub half : (cs : List ℕ) → length (flat_map spell_utf16 cs) / 2 ≡ length (utf16_units cs)
@@ -97,7 +92,7 @@ whole : (cs : List ℕ) → length (flat_map spell_utf16 cs) ≡ 2 * length (utf
 whole cs = ap length (units_flat cs) ∙ unit_length (utf16_units cs)
 
 latin1_half : (cs : List ℕ) → length (flat_map spell_latin1 cs) / 1 ≡ length cs
-latin1_half cs = let long : length (flat_map spell_latin1 cs) ≡ length cs = ap length (latin1_flat cs) in omega (arith, long)
+latin1_half cs = let long : length (flat_map spell_latin1 cs) ≡ length cs = ap length (latin1_spelled cs) in omega (arith, long)
 
 utf16_to_utf8 : (u : ℕ) (cs : List ℕ) (others : List Request) → u ≡ length (utf16_units cs)
     → AsksToUtf8 (length (utf16_units cs)) (3 * length (utf16_units cs)) cs (chain 1 (if nat_lt u (length (utf8_units cs)) then u ∷ shrunk (3 * u) (length (utf8_units cs)) else u ∷ []) ++ others) others
@@ -134,8 +129,8 @@ fills w x others e = rw e refl
 to_utf16 : (w x : ℕ) (cs : List ℕ) (others : List Request) → x ≡ 2 * length (utf16_units cs) → AsksToUtf16 w cs (chain 2 (shrunk w x) ++ others) others
 to_utf16 w x cs others e =
     record {
-      shrunk = λ lt. shrinks w x others (is_less x w (omega (arith, e, lt))) ∙ ap (λ z. fresh 2 w ∷ again w 2 z ∷ others) e;
-      filled = λ le. fills w x others (not_less x w (omega (arith, e, le)));
+      shrunk = λ lt. shrinks w x others (lt_true x w (omega (arith, e, lt))) ∙ ap (λ z. fresh 2 w ∷ again w 2 z ∷ others) e;
+      filled = λ le. fills w x others (lt_false x w (omega (arith, e, le)));
     }
 
 pub from_utf8 : (cs : List ℕ) (ps : List Part)
@@ -182,7 +177,7 @@ pub tuple_asks : (source target : StringEncoding) (tags : List Bool) (types : Fi
     → requests params types v source target tags
     ≡ fresh (align_of (fields tuple_type types)) (size_of (fields tuple_type types)) ∷ part_requests source target tags (parts_in (fields tuple_type types) v)
 tuple_asks source target tags types v many =
-    tuple_first (is_spilled params types) source target tags (size_of (fields tuple_type types)) (align_of (fields tuple_type types)) (parts_in (fields tuple_type types) v) (is_less 16 (length (flat_of_fields types)) many)
+    tuple_first (is_spilled params types) source target tags (size_of (fields tuple_type types)) (align_of (fields tuple_type types)) (parts_in (fields tuple_type types) v) (lt_true 16 (length (flat_of_fields types)) many)
 
 few_first : (b : Bool) (source target : StringEncoding) (tags : List Bool) (p : Part) (ps : List Part) → b ≡ false → part_requests source target tags (if b then p ∷ ps else ps) ≡ part_requests source target tags ps
 few_first b source target tags p ps e = ap (λ x. part_requests source target tags (if x then p ∷ ps else ps)) e
@@ -190,4 +185,4 @@ few_first b source target tags p ps e = ap (λ x. part_requests source target ta
 pub few_ask : (source target : StringEncoding) (tags : List Bool) (types : Fields) (v : Val) → length (flat_of_fields types) ≤ 16
     → requests params types v source target tags ≡ part_requests source target tags (parts_in (fields tuple_type types) v)
 few_ask source target tags types v few =
-    few_first (is_spilled params types) source target tags (element_part 1 (size_of (fields tuple_type types)) (align_of (fields tuple_type types))) (parts_in (fields tuple_type types) v) (not_less 16 (length (flat_of_fields types)) few)
+    few_first (is_spilled params types) source target tags (element_part 1 (size_of (fields tuple_type types)) (align_of (fields tuple_type types))) (parts_in (fields tuple_type types) v) (lt_false 16 (length (flat_of_fields types)) few)

@@ -14,7 +14,8 @@ use Rattle.cm_abi_model.specs.Views.{View}
 use Rattle.cm_abi_model.specs.Bytes.{AreBytes, StandsAt}
 use Rattle.cm_abi_model.specs.PartPlaces.{AreElements, AreFieldsAt, AreInRow, AreOffsets, IsCase, IsGreatestAlignment, IsHandle, IsListAt, value_at}
 use Rattle.cm_abi_model.proofs.NumberLaws.{number_stands, stands_number}
-use Rattle.cm_abi_model.proofs.PlaceLaws.{least_multiple, offset_is, one_bytes, one_greatest, one_multiple, payloads_pos}
+use Rattle.cm_abi_model.proofs.PlaceLaws.{least_multiple, offset_is, one_bytes, one_greatest, one_multiple}
+use Rattle.cm_layout.proofs.SizesLaws.{payloads_pos}
 
 stands_here : (m : List ℕ) (p bytes n x : ℕ) → AreBytes m → n ≡ x → x ≡ number_at bytes m p → StandsAt m p bytes n
 stands_here m p bytes n x h e f = subst (λ y. StandsAt m p bytes y) (sym (e ∙ f)) (number_stands bytes m p h)

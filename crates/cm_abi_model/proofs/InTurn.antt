@@ -1,12 +1,12 @@
 -- Handing over one thing after another misses nothing.
-use Rattle.std.proofs.Common.{◌≡◌, ◌≢◌, ℕ, zero, suc, ◌+◌, ◌-◌, ◌<◌, ◌≤◌, ◌⊎◌, inl, inr, ◌↔◌, List, [], ◌∷◌, length, Option, Some, None, slice_index_or, refl, sym, ap, subst, ◌∙◌, arith}
+use Rattle.std.proofs.Common.{◌≡◌, ◌≢◌, ℕ, zero, suc, ◌+◌, ◌-◌, ◌<◌, ◌⊎◌, inl, inr, ◌↔◌, List, [], ◌∷◌, Option, Some, None, slice_index_or, sym, ap, subst, ◌∙◌, arith}
 use Rattle.std.specs.Prelude.{Contains}
-use Rattle.std.specs.Option.{option_map}
-use Rattle.std.proofs.lemmas.Bool.{cases_lt, cases_eq}
-use Rattle.std.proofs.lemmas.List.{get_or_past, get_or-set_same, get_or-set_other, length-set}
+use Rattle.std.proofs.lemmas.Bool.{cases_eq}
 use Rattle.cm_handles.specs.Handles.{Handles, IsDistinct, handle_at, after_release, after_lend, with_lends}
-use Rattle.cm_handles.specs.declared.handle.Handle.{Handle}
 use Rattle.cm_abi_model.specs.Taken.{Met, content, text_content, taken, lent, content_of, taken_of, lent_of, CanGo, IsFree, IsThere, GoesInTurn, AllThere}
+use Rattle.cm_handles.proofs.HandlesLaws.{beside_lent, beside_released, lent_there, released}
+use Rattle.cm_lemmas.proofs.Lists.{Contains-first, Contains-rest}
+use Rattle.cm_handles.proofs.HandleLaws.{none_is, some_is}
 
 -- ---- lists
 
@@ -14,40 +14,10 @@ first_or_rest : (x : ℕ) (xs : List ℕ) (y : ℕ) → Contains (x ∷ xs) y �
 first_or_rest x xs y (zero, within, e) = inl e
 first_or_rest x xs y (suc k, within, e) = inr (k, omega (arith, within), e)
 
-first : (x : ℕ) (xs : List ℕ) → Contains (x ∷ xs) x
-first x xs = (0, omega arith, refl)
-
-rest : (x : ℕ) (xs : List ℕ) (y : ℕ) → Contains xs y → Contains (x ∷ xs) y
-rest x xs y c = (suc c.0, omega (arith, c.1), c.2)
-
 in_none : (y : ℕ) → Contains {X = ℕ} [] y → ⊥
 in_none y c = omega (arith, c.1)
 
 -- ---- tables
-
-some_is : {a b : Handle} → Some a ≡ Some b → a ≡ b
-some_is e = cc
-
-none_is : {a : Handle} → None ≡ Some a → ⊥
-none_is e = cc
-
-released : (t : Handles) (i : ℕ) → handle_at (after_release t i) i ≡ None
-released t i = elim (cases_lt i (length t.slots)) [
-  | inl below ↦ get_or-set_same t.slots i None None below
-  | inr past ↦ get_or_past (after_release t i).slots i None (subst (λ n. n ≤ i) (sym (length-set t.slots i None)) past)
-]
-
-beside_released : (t : Handles) (i j : ℕ) → j ≢ i → handle_at (after_release t i) j ≡ handle_at t j
-beside_released t i j other = get_or-set_other t.slots i j None None other
-
-beside_lent : (t : Handles) (i j : ℕ) → j ≢ i → handle_at (after_lend t i) j ≡ handle_at t j
-beside_lent t i j other = get_or-set_other t.slots i j _ None other
-
-lent_there : (t : Handles) (i : ℕ) (h : Handle) → handle_at t i ≡ Some h → handle_at (after_lend t i) i ≡ Some (with_lends (h.lends + 1) h)
-lent_there t i h e = elim (cases_lt i (length t.slots)) [
-  | inl below ↦ get_or-set_same t.slots i _ None below ∙ ap (option_map (λ h. with_lends (h.lends + 1) h)) e
-  | inr past ↦ absurd (none_is (sym (get_or_past t.slots i None past) ∙ e))
-]
 
 there_lent : (t : Handles) (i j : ℕ) → IsThere t i → IsThere t j → IsThere (after_lend t i) j
 there_lent t i j here there = elim (cases_eq j i) [
@@ -121,11 +91,11 @@ there_released t i [] a b there = tt {0}
 there_released t i (text_content tags n ∷ ms) a b there = there_released t i ms a b there
 there_released t i (content n ∷ ms) a b there = there_released t i ms a b there
 there_released t i (taken j ∷ ms) a b there =
-    let other : j ≢ i = λ e. a (subst (Contains (j ∷ taken_of ms)) e (first j (taken_of ms))) in
-    ((there.0.0, beside_released t i j other ∙ there.0.1), there_released t i ms (λ c. a (rest j (taken_of ms) i c)) b there.1)
+    let other : j ≢ i = λ e. a (subst (Contains (j ∷ taken_of ms)) e (Contains-first j (taken_of ms))) in
+    ((there.0.0, beside_released t i j other ∙ there.0.1), there_released t i ms (λ c. a (Contains-rest j (taken_of ms) i c)) b there.1)
 there_released t i (lent j ∷ ms) a b there =
-    let other : j ≢ i = λ e. b (subst (Contains (j ∷ lent_of ms)) e (first j (lent_of ms))) in
-    ((there.0.0, beside_released t i j other ∙ there.0.1), there_released t i ms a (λ c. b (rest j (lent_of ms) i c)) there.1)
+    let other : j ≢ i = λ e. b (subst (Contains (j ∷ lent_of ms)) e (Contains-first j (lent_of ms))) in
+    ((there.0.0, beside_released t i j other ∙ there.0.1), there_released t i ms a (λ c. b (Contains-rest j (lent_of ms) i c)) there.1)
 
 all_there_lent : (t : Handles) (i : ℕ) (ms : List Met) → IsThere t i → AllThere t ms → AllThere (after_lend t i) ms
 all_there_lent t i [] here there = tt {0}
@@ -146,24 +116,24 @@ from_all t most (content n ∷ ms) there r = (
 )
 from_all t most (taken i ∷ ms) there r =
     let no_taken = r.once.0 in
-    let no_lent : Contains (lent_of ms) i → ⊥ = r.apart i (first i (taken_of ms)) in (
-      record { entry = there.0.0; stands = there.0.1; not_lent = r.free i there.0.0 (first i (taken_of ms)) there.0.1 },
+    let no_lent : Contains (lent_of ms) i → ⊥ = r.apart i (Contains-first i (taken_of ms)) in (
+      record { entry = there.0.0; stands = there.0.1; not_lent = r.free i there.0.0 (Contains-first i (taken_of ms)) there.0.1 },
       from_all (after_release t i) most ms (there_released t i ms no_taken no_lent there.1)
           (record {
             once = r.once.1;
-            free = λ j h c e. r.free j h (rest i (taken_of ms) j c) (sym (beside_released t i j (λ same. no_taken (subst (Contains (taken_of ms)) same c))) ∙ e);
-            apart = λ j c d. r.apart j (rest i (taken_of ms) j c) d;
+            free = λ j h c e. r.free j h (Contains-rest i (taken_of ms) j c) (sym (beside_released t i j (λ same. no_taken (subst (Contains (taken_of ms)) same c))) ∙ e);
+            apart = λ j c d. r.apart j (Contains-rest i (taken_of ms) j c) d;
             small = r.small;
           }),
     )
 from_all t most (lent i ∷ ms) there r =
-    let not_taken : Contains (taken_of ms) i → ⊥ = λ c. r.apart i c (first i (lent_of ms)) in (
+    let not_taken : Contains (taken_of ms) i → ⊥ = λ c. r.apart i c (Contains-first i (lent_of ms)) in (
       there.0,
       from_all (after_lend t i) most ms (all_there_lent t i ms there.0 there.1)
           (record {
             once = r.once;
             free = λ j h c e. r.free j h c (sym (beside_lent t i j (λ same. not_taken (subst (Contains (taken_of ms)) same c))) ∙ e);
-            apart = λ j c d. r.apart j c (rest i (lent_of ms) j d);
+            apart = λ j c d. r.apart j c (Contains-rest i (lent_of ms) j d);
             small = r.small;
           }),
     )

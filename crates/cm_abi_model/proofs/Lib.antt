@@ -26,3 +26,15 @@ pub mod TakenLaws
 pub mod AskedFor
 pub mod AskedStays
 pub mod StringSizes
+pub mod AnsweredLaws
+pub mod AnsweringLaws
+pub mod FaultLaws
+pub mod GivingLaws
+pub mod NumbersLaws
+pub mod PartsLaws
+pub mod ReceivesLaws
+pub mod RequestsLaws
+pub mod SharedLaws
+pub mod TakenLemmas
+pub mod TellingLaws
+pub mod TextsLaws

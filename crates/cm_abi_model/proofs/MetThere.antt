@@ -95,7 +95,7 @@ module _ (w : View) where
       flat_payload (carrying l t cs) k zero v h = flat t k v h
       flat_payload (carrying l t cs) k (suc i) v h = flat_payload cs k i v h
 
-met_as : (w : View) (way : Way) (types : Fields) (slots : List CoreValue) (v : Val) (b : Bool) → is_spilled way types ≡ b
+pub met_as : (w : View) (way : Way) (types : Fields) (slots : List CoreValue) (v : Val) (b : Bool) → is_spilled way types ≡ b
     → met w way types slots v ≡ (if b then met_at w (tuple_of types) (wrapped_at 4 slots 0) v else met_flat w slots (tuple_of types) 0 v)
 met_as w way types slots v b is = ap (λ c. if c then met_at w (tuple_of types) (wrapped_at 4 slots 0) v else met_flat w slots (tuple_of types) 0 v) is
 

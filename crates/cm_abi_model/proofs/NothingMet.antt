@@ -17,14 +17,7 @@ use Rattle.cm_abi_model.specs.Requests.{call_parts, is_spilled, tuple_of}
 use Rattle.cm_abi_model.specs.Taken.{Met, met, met_at, met_each, met_flat, met_flat_fields, met_flat_payload}
 use Rattle.cm_abi_model.specs.Taken.{met_in_fields, met_in_payload}
 use Rattle.cm_abi_model.specs.Views.{View, Way}
-
-front_none : {A : Type 0} (xs ys : List A) → xs ++ ys ≡ [] → xs ≡ []
-front_none [] ys none = refl
-front_none (x ∷ xs) ys none = absurd (cc)
-
-rest_none : {A : Type 0} (xs ys : List A) → xs ++ ys ≡ [] → ys ≡ []
-rest_none [] ys none = none
-rest_none (x ∷ xs) ys none = absurd (cc)
+use Rattle.cm_lemmas.proofs.Lists.{nil_front, nil_rest}
 
 both_none : (xs ys : List Met) → xs ≡ [] → ys ≡ [] → xs ++ ys ≡ []
 both_none xs ys front rest = ap (λ (m : List Met). m ++ ys) front ∙ rest
@@ -34,8 +27,8 @@ each_none : (M : ℕ → Val → List Met) (P : Val → List Part) (L : Val → 
     → (size at : ℕ) (vs : Vals) → parts_each P vs ≡ [] → leaves_each L vs ≡ [] → met_each M size at vs ≡ []
 each_none M P L one size at no_vals p l = refl
 each_none M P L one size at (val v vs) p l =
-    both_none (M at v) (met_each M size (at + size) vs) (one at v (front_none (P v) (parts_each P vs) p) (front_none (L v) (leaves_each L vs) l))
-    (each_none M P L one size (at + size) vs (rest_none (P v) (parts_each P vs) p) (rest_none (L v) (leaves_each L vs) l))
+    both_none (M at v) (met_each M size (at + size) vs) (one at v (nil_front (P v) (parts_each P vs) p) (nil_front (L v) (leaves_each L vs) l))
+    (each_none M P L one size (at + size) vs (nil_rest (P v) (parts_each P vs) p) (nil_rest (L v) (leaves_each L vs) l))
 
 module _ (w : View) where
   mutual
@@ -179,8 +172,8 @@ module _ (w : View) where
     fields_none (field n t fs) at end no_vals p l = refl
     fields_none (field n t fs) at end (val v vs) p l =
         both_none (met_at w t (at + align_to (align_of t) end) v) (met_in_fields w fs at (align_to (align_of t) end + size_of t) vs)
-        (at_none t (at + align_to (align_of t) end) v (front_none (parts_in t v) (parts_in_fields fs vs) p) (front_none (leaves_in t v) (leaves_in_fields fs vs) l))
-        (fields_none fs at (align_to (align_of t) end + size_of t) vs (rest_none (parts_in t v) (parts_in_fields fs vs) p) (rest_none (leaves_in t v) (leaves_in_fields fs vs) l))
+        (at_none t (at + align_to (align_of t) end) v (nil_front (parts_in t v) (parts_in_fields fs vs) p) (nil_front (leaves_in t v) (leaves_in_fields fs vs) l))
+        (fields_none fs at (align_to (align_of t) end + size_of t) vs (nil_rest (parts_in t v) (parts_in_fields fs vs) p) (nil_rest (leaves_in t v) (leaves_in_fields fs vs) l))
 
     payload_none : (cs : Cases) (at i : ℕ) (v : Val) → parts_in_payload cs i v ≡ [] → leaves_in_payload cs i v ≡ [] → met_in_payload w cs at i v ≡ []
     payload_none no_cases at i v p l = refl
@@ -331,8 +324,8 @@ module _ (w : View) where
       flat_fields_none (field n t fs) at no_vals p l = refl
       flat_fields_none (field n t fs) at (val v vs) p l =
           both_none (met_flat w s t at v) (met_flat_fields w s fs (at + width_of t) vs)
-          (flat_none t at v (front_none (parts_in t v) (parts_in_fields fs vs) p) (front_none (leaves_in t v) (leaves_in_fields fs vs) l))
-          (flat_fields_none fs (at + width_of t) vs (rest_none (parts_in t v) (parts_in_fields fs vs) p) (rest_none (leaves_in t v) (leaves_in_fields fs vs) l))
+          (flat_none t at v (nil_front (parts_in t v) (parts_in_fields fs vs) p) (nil_front (leaves_in t v) (leaves_in_fields fs vs) l))
+          (flat_fields_none fs (at + width_of t) vs (nil_rest (parts_in t v) (parts_in_fields fs vs) p) (nil_rest (leaves_in t v) (leaves_in_fields fs vs) l))
 
       flat_payload_none : (cs : Cases) (at i : ℕ) (v : Val) → parts_in_payload cs i v ≡ [] → leaves_in_payload cs i v ≡ [] → met_flat_payload w s cs at i v ≡ []
       flat_payload_none no_cases at i v p l = refl

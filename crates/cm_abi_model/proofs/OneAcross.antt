@@ -32,7 +32,7 @@ same_borrowed : (a b : HandleValue) (as' bs : List HandleLeaf) → borrowed_leaf
 same_borrowed a b as' bs e = (cc, cc)
 
 -- what leads first, and what follows
-again : (xs ys zs us vs ws : List HandleLeaf) → (xs ++ ys) ++ zs ≡ (us ++ vs) ++ ws → xs ++ (ys ++ zs) ≡ us ++ (vs ++ ws)
+pub again : (xs ys zs us vs ws : List HandleLeaf) → (xs ++ ys) ++ zs ≡ (us ++ vs) ++ ws → xs ++ (ys ++ zs) ≡ us ++ (vs ++ ws)
 again xs ys zs us vs ws e = sym (append_assoc xs ys zs) ∙ e ∙ append_assoc us vs ws
 
 one_each : (S R : ℕ → Val → Type 0) (L : Val → List HandleLeaf) (size : ℕ) → ((p : ℕ) (u v : Val) (as' bs : List HandleLeaf) → S p u → R p v → L u ++ as' ≡ L v ++ bs → One u v as' bs)
@@ -96,7 +96,7 @@ as_borrow : (w : View) (p : ℕ) (r : ResourceId) (v : Val) → Shows w (borrow 
 as_borrow w p r (handle a) h = record { content = a; value = refl; fact = h }
 as_borrow w p r v h = absurd h
 
-as_case : (w : View) (p : ℕ) (k : CasesKind) (cs : Cases) (v : Val) → Shows w (cases k cs) p v
+pub as_case : (w : View) (p : ℕ) (k : CasesKind) (cs : Cases) (v : Val) → Shows w (cases k cs) p v
     → ((i : ℕ) × (v ≡ bare i) × (number_at (discriminant_size (case_count cs)) w.memory p ≡ i) × IsPlainCase cs i)
     ⊎ ((i : ℕ) × (a : Val) × (v ≡ bearing i a) × (number_at (discriminant_size (case_count cs)) w.memory p ≡ i) × ShowsPayload w cs (p + payload_offset cs) i a)
 as_case w p k cs (bare i) h = inl (i, refl, h.0, h.1)
@@ -104,7 +104,7 @@ as_case w p k cs (bearing i a) h = inr (i, a, refl, h.0, h.1)
 as_case w p k cs v h = absurd h
 
 -- the same of slots
-flat_as_case : (w : View) (s : List CoreValue) (p : ℕ) (k : CasesKind) (cs : Cases) (v : Val) → FlatShows w s (cases k cs) p v
+pub flat_as_case : (w : View) (s : List CoreValue) (p : ℕ) (k : CasesKind) (cs : Cases) (v : Val) → FlatShows w s (cases k cs) p v
     → ((i : ℕ) × (v ≡ bare i) × (wrapped_at 4 s p ≡ i) × IsPlainCase cs i)
     ⊎ ((i : ℕ) × (a : Val) × (v ≡ bearing i a) × (wrapped_at 4 s p ≡ i) × FlatShowsPayload w s cs (p + 1) i a)
 flat_as_case w s p k cs (bare i) h = inl (i, refl, h.0, h.1)

@@ -2,18 +2,18 @@
 use Rattle.std.proofs.Common.{◌≡◌, ℕ, zero, suc, ◌+◌, ◌⊎◌, List, Some, refl, sym, ap, subst, ◌∙◌, arith, inl, inr}
 use Rattle.cm_types.specs.declared.core_value.CoreValue.{CoreValue}
 use Rattle.cm_types.specs.declared.resource.ResourceId.{ResourceId}
-use Rattle.cm_types.specs.Types.{Width, FieldsKind, CasesKind, Ty, Fields, Cases, bool, signed, unsigned, char, string, list, fixed_list, fields, cases, flags, own, borrow, no_fields, field, no_cases, plain, carrying, tuple_type}
+use Rattle.cm_types.specs.Types.{Width, FieldsKind, Ty, Fields, Cases, bool, signed, unsigned, char, string, list, fixed_list, fields, cases, flags, own, borrow, no_fields, field, no_cases, plain, carrying, tuple_type}
 use Rattle.cm_types.specs.Values.{Val, Vals, HandleValue, no_vals, val, truth, signed_number, number, scalar, text, elements, parts, bare, bearing, flag_set, handle, count_of, IsPlainCase}
 use Rattle.cm_handles.specs.Handles.{Handles}
 use Rattle.cm_handles.specs.declared.handle.Handle.{Handle}
-use Rattle.cm_layout.specs.Sizes.{case_count, discriminant_size, payload_offset}
+use Rattle.cm_layout.specs.Sizes.{payload_offset}
 use Rattle.cm_text.specs.Text.{IsText}
-use Rattle.cm_abi_model.specs.Numbers.{number_at, wrapped_at}
 use Rattle.cm_abi_model.specs.Views.{View, Way}
 use Rattle.cm_abi_model.specs.Texts.{Charset, Has, spell}
 use Rattle.cm_abi_model.specs.Shows.{Shows, ShowFields, ShowsPayload, ShowEach, ShowsHandle}
 use Rattle.cm_abi_model.specs.FlatShows.{FlatShows, FlatShowFields, FlatShowsPayload}
 use Rattle.cm_abi_model.specs.Denotes.{Denotes}
+use Rattle.cm_abi_model.proofs.OneAcross.{as_case, flat_as_case}
 
 -- an index stands for one handle
 pub one_handle : (table : Handles) (index : ℕ) (r : ResourceId) (g h : HandleValue) → ShowsHandle table index r g
@@ -91,21 +91,6 @@ as_own w p r v h = absurd h
 as_borrow : (w : View) (p : ℕ) (r : ResourceId) (v : Val) → Shows w (borrow r) p v → Is handle (λ a. Shows w (borrow r) p (handle a)) v
 as_borrow w p r (handle a) h = record { content = a; value = refl; fact = h }
 as_borrow w p r v h = absurd h
-
-as_case : (w : View) (p : ℕ) (k : CasesKind) (cs : Cases) (v : Val) → Shows w (cases k cs) p v
-    → ((i : ℕ) × (v ≡ bare i) × (number_at (discriminant_size (case_count cs)) w.memory p ≡ i) × IsPlainCase cs i)
-    ⊎ ((i : ℕ) × (a : Val) × (v ≡ bearing i a) × (number_at (discriminant_size (case_count cs)) w.memory p ≡ i) × ShowsPayload w cs (p + payload_offset cs) i a)
-as_case w p k cs (bare i) h = inl (i, refl, h.0, h.1)
-as_case w p k cs (bearing i a) h = inr (i, a, refl, h.0, h.1)
-as_case w p k cs v h = absurd h
-
--- the same of slots
-flat_as_case : (w : View) (s : List CoreValue) (p : ℕ) (k : CasesKind) (cs : Cases) (v : Val) → FlatShows w s (cases k cs) p v
-    → ((i : ℕ) × (v ≡ bare i) × (wrapped_at 4 s p ≡ i) × IsPlainCase cs i)
-    ⊎ ((i : ℕ) × (a : Val) × (v ≡ bearing i a) × (wrapped_at 4 s p ≡ i) × FlatShowsPayload w s cs (p + 1) i a)
-flat_as_case w s p k cs (bare i) h = inl (i, refl, h.0, h.1)
-flat_as_case w s p k cs (bearing i a) h = inr (i, a, refl, h.0, h.1)
-flat_as_case w s p k cs v h = absurd h
 
 flat_as_bool : (w : View) (s : List CoreValue) (p : ℕ) (v : Val) → FlatShows w s bool p v → Is truth (λ a. FlatShows w s bool p (truth a)) v
 flat_as_bool w s p (truth a) h = record { content = a; value = refl; fact = h }

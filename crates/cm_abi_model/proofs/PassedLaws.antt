@@ -24,7 +24,6 @@ use Rattle.cm_abi_model.specs.Texts.{ShowsText}
 use Rattle.cm_abi_model.specs.Views.{View, Way, params, results}
 use Rattle.cm_abi_model.specs.Requests.{is_spilled}
 use Rattle.cm_types.specs.declared.core_value.CoreKind.TheVariants as kind
-use Rattle.cm_abi_model.proofs.AskingLaws.{is_less, not_less}
 use Rattle.cm_abi_model.specs.Bytes.{AreBytes, IsTwosComplement, bit_of}
 use Rattle.cm_abi_model.specs.PartPlaces.{AreElements, IsCase, IsHandle, value_at}
 use Rattle.cm_abi_model.specs.Passed.{AreFieldsIn, AreFirst, AreLowBits, ArePassed, IsCore, IsCore32, IsTupleAt}
@@ -34,6 +33,7 @@ use Rattle.cm_abi_model.proofs.FieldLaws.{elements_only, elements_read, handle_o
 use Rattle.cm_abi_model.proofs.FlagLaws.{bits_same}
 use Rattle.cm_abi_model.proofs.NumberLaws.{signed_only, signed_read, signed_stored}
 use Rattle.cm_abi_model.proofs.StringLaws.{shown_string, string_shown}
+use Rattle.cm_lemmas.proofs.Numbers.{lt_true, lt_false}
 
 -- ---- the number of a core value
 
@@ -332,13 +332,13 @@ behind_by g way types v e = (
 )
 
 pub params_lowered : (g : Given) (types : Fields) (v : Val) → 16 < length (flat_of_fields types) → IsPassedBehind g params types v
-params_lowered g types v many = behind_by g params types v (is_less 16 (length (flat_of_fields types)) many)
+params_lowered g types v many = behind_by g params types v (lt_true 16 (length (flat_of_fields types)) many)
 
 pub results_lowered : (g : Given) (types : Fields) (v : Val) → 1 < length (flat_of_fields types) → IsPassedBehind g results types v
-results_lowered g types v many = behind_by g results types v (is_less 1 (length (flat_of_fields types)) many)
+results_lowered g types v many = behind_by g results types v (lt_true 1 (length (flat_of_fields types)) many)
 
 pub params_kinds : (types : Fields) → length (flat_of_fields types) ≤ 16 → call_kinds params types ≡ flat_of_fields types
-params_kinds types few = ap (λ b. if b then kind.I32 ∷ [] else flat_of_fields types) (not_less 16 (length (flat_of_fields types)) few)
+params_kinds types few = ap (λ b. if b then kind.I32 ∷ [] else flat_of_fields types) (lt_false 16 (length (flat_of_fields types)) few)
 
 pub results_kinds : (types : Fields) → length (flat_of_fields types) ≤ 1 → call_kinds results types ≡ flat_of_fields types
-results_kinds types few = ap (λ b. if b then kind.I32 ∷ [] else flat_of_fields types) (not_less 1 (length (flat_of_fields types)) few)
+results_kinds types few = ap (λ b. if b then kind.I32 ∷ [] else flat_of_fields types) (lt_false 1 (length (flat_of_fields types)) few)

@@ -2,10 +2,13 @@
 use Rattle.std.proofs.Common.{◌≡◌, ℕ, zero, suc, ◌+◌, ◌-◌, ◌*◌, ◌/◌, ◌<◌, ◌≤◌, ◌⊎◌, inl, inr, length, nat_le, Option, Some, None, refl, sym, ap, subst, ◌∙◌, arith}
 use Rattle.std.proofs.Math.Nat.{div-mul-le_self, lt-div-mul-add, mul-le-mul_right}
 use Rattle.std.proofs.lemmas.Bool.{cases_Bool, cases_lt}
-use Rattle.cm_types.specs.Types.{Ty, Fields, FieldsKind, Cases, Width, width_bytes, bits_8, bits_16, bits_32, bits_64, bool, signed, unsigned, char, string, list, fixed_list, fields, cases, flags, own, borrow, no_fields, field, no_cases, plain, carrying}
+use Rattle.cm_types.specs.Types.{Ty, Fields, FieldsKind, Cases, bool, signed, unsigned, char, string, list, fixed_list, fields, cases, flags, own, borrow, no_fields, field, no_cases, plain, carrying}
 use Rattle.cm_layout.specs.Alignment.{IsLeastMultiple, align_to}
-use Rattle.cm_layout.specs.Sizes.{IsLeastBytes, align_of, align_of_fields, align_of_payloads, end_before, field_count, field_offset, field_offset_from, field_type, flags_size, size_of}
+use Rattle.cm_layout.specs.Sizes.{IsLeastBytes, align_of, align_of_fields, align_of_payloads, field_count, field_offset, field_offset_from, field_type, flags_size, size_of}
 use Rattle.cm_abi_model.specs.PartPlaces.{AreOffsets, IsCase, IsGreatestAlignment}
+use Rattle.cm_layout.proofs.SizesLaws.{payloads_pos}
+use Rattle.cm_layout.proofs.OffsetLaws.{field_is_placed}
+use Rattle.cm_types.proofs.TypesLaws.{width_pos}
 
 -- ---- least multiples
 
@@ -36,12 +39,6 @@ one_multiple a e x y h k =
 
 -- ---- alignments are some
 
-width_pos : (w : Width) → 0 < width_bytes w
-width_pos bits_8 = omega arith
-width_pos bits_16 = omega arith
-width_pos bits_32 = omega arith
-width_pos bits_64 = omega arith
-
 flags_pos : (n : ℕ) → 0 < flags_size n
 flags_pos n = elim (cases_Bool (nat_le n 8)) [
   | inl y ↦ rw y (omega arith)
@@ -51,11 +48,6 @@ flags_pos n = elim (cases_Bool (nat_le n 8)) [
 pub fields_pos : (fs : Fields) → 0 < align_of_fields fs
 fields_pos no_fields = omega arith
 fields_pos (field l t fs) = omega (arith, fields_pos fs)
-
-pub payloads_pos : (cs : Cases) → 0 < align_of_payloads cs
-payloads_pos no_cases = omega arith
-payloads_pos (plain l cs) = payloads_pos cs
-payloads_pos (carrying l t cs) = omega (arith, payloads_pos cs)
 
 pub align_pos : (t : Ty) → 0 < align_of t
 align_pos bool = omega arith
@@ -73,12 +65,6 @@ align_pos (borrow r) = omega arith
 
 -- ---- offsets of fields
 
-placed_field : (fs : Fields) (at n : ℕ) → n < field_count fs → IsLeastMultiple (align_of (field_type fs n)) (end_before fs at n) (field_offset_from fs at n)
-placed_field no_fields at n lt = absurd (omega arith)
-placed_field (field l t fs) at zero lt = least_multiple (align_of t) at (align_pos t)
-placed_field (field l t fs) at (suc zero) lt = placed_field fs (align_to (align_of t) at + size_of t) zero (omega arith)
-placed_field (field l t fs) at (suc (suc n)) lt = placed_field fs (align_to (align_of t) at + size_of t) (suc n) (omega arith)
-
 first_offset : (fs : Fields) → field_offset_from fs 0 0 ≡ 0
 first_offset no_fields = refl
 first_offset (field l t fs) = one_multiple (align_of t) 0 (align_to (align_of t) 0) 0 (least_multiple (align_of t) 0 (align_pos t)) (record { multiple = (0, omega arith); above = omega arith; least = λ j le. omega arith })
@@ -89,7 +75,7 @@ are_offsets k fs = record { first = first_offset fs; next = λ i lt. next i lt }
     next : (i : ℕ) → i + 1 < field_count fs → IsLeastMultiple (align_of (field_type fs (i + 1))) (field_offset_from fs 0 i + size_of (field_type fs i)) (field_offset_from fs 0 (i + 1))
     next i lt =
         let same : i + 1 ≡ suc i = omega arith in
-        subst (λ n. IsLeastMultiple (align_of (field_type fs n)) (field_offset_from fs 0 i + size_of (field_type fs i)) (field_offset_from fs 0 n)) (sym same) (placed_field fs 0 (suc i) (omega (arith, lt)))
+        subst (λ n. IsLeastMultiple (align_of (field_type fs n)) (field_offset_from fs 0 i + size_of (field_type fs i)) (field_offset_from fs 0 n)) (sym same) (field_is_placed fs 0 (suc i) (omega (arith, lt)))
 
 -- there is one offset for each field
 pub offset_is : (fs : Fields) (offset : ℕ → ℕ) → AreOffsets fs offset → (n : ℕ) → n < field_count fs → offset n ≡ field_offset_from fs 0 n
@@ -99,11 +85,11 @@ offset_is fs offset h (suc n) lt =
     let before = offset_is fs offset h n (omega (arith, lt)) in
     let next = subst (λ m. IsLeastMultiple (align_of (field_type fs m)) (offset n + size_of (field_type fs n)) (offset m)) same (h.next n (omega (arith, lt))) in
     let from = subst (λ o. IsLeastMultiple (align_of (field_type fs (suc n))) (o + size_of (field_type fs n)) (offset (suc n))) before next in
-    one_multiple (align_of (field_type fs (suc n))) (field_offset_from fs 0 n + size_of (field_type fs n)) (offset (suc n)) (field_offset_from fs 0 (suc n)) from (placed_field fs 0 (suc n) lt)
+    one_multiple (align_of (field_type fs (suc n))) (field_offset_from fs 0 n + size_of (field_type fs n)) (offset (suc n)) (field_offset_from fs 0 (suc n)) from (field_is_placed fs 0 (suc n) lt)
 
 pub offset_aligned : (fs : Fields) (offset : ℕ → ℕ) → AreOffsets fs offset → (n : ℕ) → n < field_count fs → (k : ℕ) × (offset n ≡ k * align_of (field_type fs n))
 offset_aligned fs offset h n lt =
-    let m = (placed_field fs 0 n lt).multiple in
+    let m = (field_is_placed fs 0 n lt).multiple in
     (m.0, offset_is fs offset h n lt ∙ m.1)
 
 -- ---- what cases carry

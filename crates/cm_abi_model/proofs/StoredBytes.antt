@@ -1,15 +1,10 @@
 -- Numbers and texts that stand in memory byte by byte are read back.
-use Rattle.std.proofs.Common.{◌≡◌, ℕ, zero, suc, ◌+◌, ◌*◌, ◌/◌, ◌^◌, ◌<◌, ◌≤◌, List, [], ◌∷◌, ◌++◌, length, take, drop, refl, sym, ap, ◌∙◌, arith, length-append}
+use Rattle.std.proofs.Common.{◌≡◌, ℕ, zero, suc, ◌+◌, ◌*◌, ◌/◌, ◌^◌, ◌<◌, ◌≤◌, List, [], ◌∷◌, ◌++◌, length, take, drop, refl, sym, ap, ◌∙◌, arith}
 use Rattle.std.proofs.Math.Seq.{drop-cons}
-use Rattle.std.proofs.lemmas.Bool.Decides.{nat_tests}
-use Rattle.std.proofs.Common.{inl, inr}
-use Rattle.std.specs.Char.{IsScalar}
 use Rattle.std.specs.List.{AllByRecursion, flat_map}
-use lib.Utf8.{low_scalar}
 use Rattle.cm_types.specs.Values.{IsScalarValue}
 use Rattle.cm_text.specs.Utf8.{spell_utf8}
 use Rattle.cm_text.specs.Utf16.{spell_utf16}
-use Rattle.cm_text.specs.Utf16Laws.{utf16_units}
 use Rattle.cm_abi_model.specs.declared.encoding.StringEncoding.{StringEncoding}
 use Rattle.cm_abi_model.specs.declared.encoding.StringEncoding.TheVariants as encoding
 use Rattle.cm_abi_model.specs.Parts.{text_part}
@@ -18,6 +13,8 @@ use Rattle.cm_abi_model.specs.Requests.{IsStored, stored_charset, text_bytes, te
 use Rattle.cm_abi_model.specs.Texts.{ShowsText}
 use Rattle.cm_abi_model.specs.Numbers.{number_at}
 use Rattle.cm_abi_model.specs.Stores.{Placed, placed, bytes_of, Holds}
+use Rattle.cm_types.proofs.ValuesLaws.{are_scalars}
+use Rattle.cm_text.proofs.Utf16Laws.{even}
 
 pub holds_split : (m : List ℕ) (xs ys : List Placed) → Holds m (xs ++ ys) → Holds m xs × Holds m ys
 holds_split m [] ys h = (tt {0}, h)
@@ -37,27 +34,6 @@ text_held m (b ∷ bs) at inside h =
     ∙ ap (λ x. x ∷ take (length bs) (drop (suc at) m)) h.0
     ∙ ap (λ i. b ∷ take (length bs) (drop i m)) {x = suc at} {y = at + 1} (omega arith)
     ∙ ap (λ xs. b ∷ xs) (text_held m bs (at + 1) (omega (arith, inside)) h.1)
-
-pub is_scalar : (c : ℕ) → IsScalarValue c → IsScalar c
-is_scalar c h = elim h.1 [
-  | inl low ↦ low_scalar c (omega (arith, low))
-  | inr high ↦ high_scalar (omega (arith, high)) h.0
-]
-  where
-    high_scalar : 0xE000 ≤ c → c < 0x110000 → IsScalar c
-    high_scalar low small = grind (arith, nat_tests)
-
-pub are_scalars : (cs : List ℕ) → AllByRecursion IsScalarValue cs → AllByRecursion IsScalar cs
-are_scalars [] h = tt {0}
-are_scalars (c ∷ cs) h = (is_scalar c h.0, are_scalars cs h.1)
-
--- the bytes of UTF-16 are even
-even : (cs : List ℕ) → (n : ℕ) × (length (flat_map spell_utf16 cs) ≡ 2 * n)
-even [] = (0, refl)
-even (c ∷ cs) =
-    let one = utf16_units c in
-    let rest = even cs in
-    (one.0 + rest.0, omega (arith, length-append (spell_utf16 c) (flat_map spell_utf16 cs), one.1, rest.1))
 
 -- a text that is stored is shown
 pub text_shown : (e : StringEncoding) (m cs : List ℕ) (at : ℕ) → IsStored e → IsPlaced e (length m) at (text_part cs)

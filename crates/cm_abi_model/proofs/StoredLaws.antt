@@ -18,7 +18,8 @@ use Rattle.cm_abi_model.proofs.AskingLaws.{half}
 use Rattle.cm_abi_model.proofs.FieldLaws.{LeastSizes, offset_here, size_is}
 use Rattle.cm_abi_model.proofs.NumberLaws.{held_stands}
 use Rattle.cm_abi_model.proofs.PlaceLaws.{offset_is}
-use Rattle.cm_abi_model.proofs.StringLaws.{one_byte, unit_high, unit_length, unit_low, unit_stands, units_flat}
+use Rattle.cm_abi_model.proofs.StringLaws.{one_byte, unit_high, unit_low, unit_stands, units_flat}
+use Rattle.cm_text.proofs.Utf16Laws.{unit_length}
 
 holds_front : (m : List ℕ) (xs ys : List Placed) → Holds m (xs ++ ys) → Holds m xs
 holds_front m [] ys h = tt {0}

@@ -15,7 +15,10 @@ use Rattle.cm_abi_model.specs.Views.{Way}
 use Rattle.cm_abi_model.proofs.StoredShows.{counted}
 use Rattle.std.proofs.Common.{slice_index, slice_set}
 use Rattle.std.proofs.lemmas.List.{get_or-set_same, get_or-set_other, length-set}
-use Rattle.cm_abi_model.proofs.StoredRegions.{all_append, all_weaker, all_placed, number_inside, aligned_behind, align_some, fields_align_some, payloads_align_some, end_behind, cases_end, max_left, max_right, in_left, in_right, Near, inside, each_inside, fields_inside, payload_inside, behind_inside, behind_each_inside, behind_fields_inside, call_inside}
+use Rattle.cm_abi_model.proofs.StoredRegions.{all_append, all_weaker, all_placed, number_inside, align_some, fields_align_some, cases_end, max_left, max_right, in_left, in_right, Near, inside, each_inside, fields_inside, payload_inside, behind_inside, behind_each_inside, behind_fields_inside, call_inside}
+use Rattle.cm_layout.proofs.SizeLemmas.{place_above}
+use Rattle.cm_layout.proofs.LaidLaws.{end_grows}
+use Rattle.cm_layout.proofs.AlignLemmas.{payloads_align_pos}
 
 -- ---- bytes at addresses of their own
 
@@ -55,11 +58,11 @@ pointer_once p at n =
 
 -- ---- stored once, they stay
 
-stays : (bs : List Placed) (m : List ℕ) (a : ℕ) → IsBeside a bs → slice_index (poke bs m) a ≡ slice_index m a
+pub stays : (bs : List Placed) (m : List ℕ) (a : ℕ) → IsBeside a bs → slice_index (poke bs m) a ≡ slice_index m a
 stays [] m a x = refl
 stays (b ∷ bs) m a x = stays bs (slice_set m b.0 b.1) a x.1 ∙ get_or-set_other m b.0 a b.1 0 x.0
 
-poke_length : (bs : List Placed) (m : List ℕ) → length (poke bs m) ≡ length m
+pub poke_length : (bs : List Placed) (m : List ℕ) → length (poke bs m) ≡ length m
 poke_length [] m = refl
 poke_length (b ∷ bs) m = poke_length bs (slice_set m b.0 b.1) ∙ length-set m b.0 b.1
 
@@ -168,12 +171,12 @@ module _ (target : StringEncoding) (g : Given) (charset : g.charset ≡ stored_c
     once (fields c fs) (parts vs) p k h typed clear apart =
         fields_once fs vs p 0 k h typed
         (clear_same p (align_to (align_of_fields fs) (end_of fs 0)) (p + 0) (end_of fs 0 - 0) k (parts_in_fields fs vs) (omega arith)
-        (omega (arith, aligned_behind (align_of_fields fs) (end_of fs 0) (fields_align_some fs))) clear) apart
+        (omega (arith, place_above (align_of_fields fs) (end_of fs 0) (fields_align_some fs))) clear) apart
     once (cases c cs) (bare i) p k h typed clear apart = once_placed p _
     once (cases c cs) (bearing i v) p k h typed clear apart =
         let d = discriminant_size (case_count cs) in
         let off = payload_offset cs in
-        let low = aligned_behind (align_of_payloads cs) d (payloads_align_some cs) in
+        let low = place_above (align_of_payloads cs) d (payloads_align_pos cs) in
         let past = cases_end cs _ refl in
         once_append (IsIn p d) (Near target g charset (p + off) (greatest_payload cs) k (parts_in_payload cs i v))
         (case_apart p d off (greatest_payload cs) (size_of (cases c cs)) k (parts_in_payload cs i v) low (omega (arith, past)) clear)
@@ -194,8 +197,8 @@ module _ (target : StringEncoding) (g : Given) (charset : g.charset ≡ stored_c
     fields_once (field l t fs) (val v vs) p end k h typed clear apart =
         let q = align_to (align_of t) end in
         let s = size_of t in
-        let past = end_behind fs (q + s) in
-        let low = aligned_behind (align_of t) end (align_some t) in
+        let past = end_grows fs (q + s) in
+        let low = place_above (align_of t) end (align_some t) in
         let room = end_of fs (q + s) - end in
         let rest = end_of fs (q + s) - (q + s) in
         let ps = parts_in t v in

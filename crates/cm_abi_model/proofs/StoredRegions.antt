@@ -1,10 +1,8 @@
 -- What is stored of a value lies in its own place and in the regions of its parts.
 use Rattle.std.proofs.Common.{◌≡◌, ℕ, zero, suc, ◌+◌, ◌-◌, ◌*◌, ◌/◌, ◌≤◌, ◌⊎◌, inl, inr, Bool, List, [], ◌∷◌, ◌++◌, length, refl, sym, subst, arith}
 use Rattle.std.specs.Prelude.{max, if◌then◌else◌}
-use Rattle.std.proofs.Math.Nat.{lt-div-mul-add}
 use Rattle.std.proofs.lemmas.Bool.{cases_Bool}
-use Rattle.std.proofs.lemmas.Bool.Decides.{nat_tests}
-use Rattle.cm_types.specs.Types.{Ty, Fields, Cases, Width, bits_8, bits_16, bits_32, bits_64, width_bytes, bool, signed, unsigned, char, string, list, fixed_list, fields, cases, flags, own, borrow, no_fields, field, no_cases, plain, carrying}
+use Rattle.cm_types.specs.Types.{Ty, Fields, Cases, width_bytes, bool, signed, unsigned, char, string, list, fixed_list, fields, cases, flags, own, borrow, no_fields, field, no_cases, plain, carrying}
 use Rattle.cm_types.specs.Values.{Val, Vals, no_vals, val, truth, signed_number, number, scalar, text, elements, parts, bare, bearing, flag_set, handle, count_of, HasType, HaveTypes, IsCarriedCase, AllVals}
 use Rattle.cm_layout.specs.Alignment.{align_to}
 use Rattle.cm_layout.specs.Sizes.{align_of, align_of_fields, align_of_payloads, size_of, end_of, greatest_payload, case_count, discriminant_size, flags_size, payload_offset}
@@ -16,6 +14,10 @@ use Rattle.cm_abi_model.specs.Requests.{stored_charset, text_bytes, is_spilled, 
 use Rattle.cm_abi_model.specs.Stores.{Placed, Given, place_of, placed, bytes_of, pointer_bytes, store_each, stored, stored_fields, stored_payload}
 use Rattle.cm_abi_model.specs.Views.{Way}
 use Rattle.cm_abi_model.proofs.StoredShows.{counted}
+use Rattle.cm_layout.proofs.SizeLemmas.{place_above}
+use Rattle.cm_layout.proofs.AlignLemmas.{discriminant_pos, flags_pos, payloads_align_pos}
+use Rattle.cm_layout.proofs.LaidLaws.{end_grows}
+use Rattle.cm_types.proofs.TypesLaws.{width_some}
 
 -- ---- bytes at addresses
 
@@ -51,21 +53,6 @@ max_left a b = omega arith
 pub max_right : (a b : ℕ) → b ≤ max a b
 max_right a b = omega arith
 
-discriminant_some : (n : ℕ) → 1 ≤ discriminant_size n
-discriminant_some n = grind (arith, nat_tests)
-
-flags_some : (n : ℕ) → 1 ≤ flags_size n
-flags_some n = grind (arith, nat_tests)
-
-width_some : (w : Width) → 1 ≤ width_bytes w
-width_some bits_8 = omega arith
-width_some bits_16 = omega arith
-width_some bits_32 = omega arith
-width_some bits_64 = omega arith
-
-pub aligned_behind : (a e : ℕ) → 1 ≤ a → e ≤ align_to a e
-aligned_behind a e some = omega (arith, some, lt-div-mul-add {a = e + (a - 1)} {b = a} (omega (arith, some)))
-
 mutual
   pub align_some : (t : Ty) → 1 ≤ align_of t
   align_some bool = omega arith
@@ -77,8 +64,8 @@ mutual
   align_some (fixed_list t n) = align_some t
   align_some (fields k fs) = fields_align_some fs
   align_some (cases k cs) =
-      omega (arith, discriminant_some (case_count cs), max_left (discriminant_size (case_count cs)) (align_of_payloads cs))
-  align_some (flags ls) = flags_some (length ls)
+      omega (arith, discriminant_pos (case_count cs), max_left (discriminant_size (case_count cs)) (align_of_payloads cs))
+  align_some (flags ls) = flags_pos (length ls)
   align_some (own r) = omega arith
   align_some (borrow r) = omega arith
 
@@ -86,22 +73,12 @@ mutual
   fields_align_some no_fields = omega arith
   fields_align_some (field l t fs) = omega (arith, align_some t, max_left (align_of t) (align_of_fields fs))
 
-pub payloads_align_some : (cs : Cases) → 1 ≤ align_of_payloads cs
-payloads_align_some no_cases = omega arith
-payloads_align_some (plain l cs) = payloads_align_some cs
-payloads_align_some (carrying l t cs) = omega (arith, align_some t, max_left (align_of t) (align_of_payloads cs))
-
-pub end_behind : (fs : Fields) (at : ℕ) → at ≤ end_of fs at
-end_behind no_fields at = omega arith
-end_behind (field l t fs) at =
-    omega (arith, aligned_behind (align_of t) at (align_some t), end_behind fs (align_to (align_of t) at + size_of t))
-
 -- what has cases ends behind its greatest payload
 pub cases_end : (cs : Cases) (n : ℕ) → n ≡ max (discriminant_size (case_count cs)) (align_of_payloads cs)
     → payload_offset cs + greatest_payload cs ≤ align_to n (payload_offset cs + greatest_payload cs)
 cases_end cs n e =
-    aligned_behind n (payload_offset cs + greatest_payload cs)
-    (omega (arith, e, discriminant_some (case_count cs), max_left (discriminant_size (case_count cs)) (align_of_payloads cs)))
+    place_above n (payload_offset cs + greatest_payload cs)
+    (omega (arith, e, discriminant_pos (case_count cs), max_left (discriminant_size (case_count cs)) (align_of_payloads cs)))
 
 module _ (target : StringEncoding) (g : Given) (charset : g.charset ≡ stored_charset target) where
   -- in the regions of parts among others
@@ -178,7 +155,7 @@ module _ (target : StringEncoding) (g : Given) (charset : g.charset ≡ stored_c
   pub cases_room : (c : Cases) (n : ℕ) → n ≡ max (discriminant_size (case_count c)) (align_of_payloads c)
       → discriminant_size (case_count c) ≤ align_to n (payload_offset c + greatest_payload c)
   cases_room c n e =
-      omega (arith, cases_end c n e, aligned_behind (align_of_payloads c) (discriminant_size (case_count c)) (payloads_align_some c))
+      omega (arith, cases_end c n e, place_above (align_of_payloads c) (discriminant_size (case_count c)) (payloads_align_pos c))
 
   mutual
     pub inside : (t : Ty) (v : Val) (p k h : ℕ) → HasType t v → Inside t v p k h
@@ -201,7 +178,7 @@ module _ (target : StringEncoding) (g : Given) (charset : g.charset ≡ stored_c
     inside (fields c fs) (parts vs) p k h typed =
         all_weaker _ _
         (near_same (p + 0) (end_of fs 0 - 0) p (align_to (align_of_fields fs) (end_of fs 0)) k (parts_in_fields fs vs) (omega arith)
-        (omega (arith, aligned_behind (align_of_fields fs) (end_of fs 0) (fields_align_some fs)))) _
+        (omega (arith, place_above (align_of_fields fs) (end_of fs 0) (fields_align_some fs)))) _
         (fields_inside fs vs p 0 k h typed)
     inside (cases c cs) (bare i) p k h typed =
         own_inside (discriminant_size (case_count cs)) p p (size_of (cases c cs)) i k [] (omega arith) (omega (arith, cases_room cs _ refl))
@@ -223,8 +200,8 @@ module _ (target : StringEncoding) (g : Given) (charset : g.charset ≡ stored_c
     fields_inside (field l t fs) no_vals p end k h typed = absurd typed
     fields_inside (field l t fs) (val v vs) p end k h typed =
         let q = align_to (align_of t) end in
-        let past = end_behind fs (q + size_of t) in
-        let low = aligned_behind (align_of t) end (align_some t) in
+        let past = end_grows fs (q + size_of t) in
+        let low = place_above (align_of t) end (align_some t) in
         let room = end_of fs (q + size_of t) - end in
         all_append _ (stored g t v (p + q) k h) _
         (all_weaker _ _

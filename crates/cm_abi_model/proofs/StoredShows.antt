@@ -1,5 +1,5 @@
 -- What is stored of a value shows it.
-use Rattle.std.proofs.Common.{◌≡◌, ℕ, zero, suc, ℤ, pos, negsuc, ◌+◌, ◌-◌, ◌*◌, ◌%◌, ◌^◌, ◌<◌, ◌≤◌, Bool, true, false, List, [], ◌∷◌, ◌++◌, length, Some, None, slice_index, not, ◌==◌, refl, sym, ap, subst, ◌∙◌, arith, length-append}
+use Rattle.std.proofs.Common.{◌≡◌, ℕ, zero, suc, ℤ, pos, negsuc, ◌+◌, ◌-◌, ◌*◌, ◌%◌, ◌^◌, ◌<◌, ◌≤◌, Bool, true, false, List, [], ◌∷◌, ◌++◌, length, Some, slice_index, not, ◌==◌, refl, sym, ap, subst, ◌∙◌, arith, length-append}
 use Rattle.std.proofs.Common.{inl, inr, ◌⊎◌}
 use Rattle.cm_abi_model.specs.declared.encoding.StringEncoding.{StringEncoding}
 use Rattle.cm_abi_model.specs.declared.encoding.StringEncoding.TheVariants as encoding
@@ -11,7 +11,6 @@ use Rattle.std.proofs.lemmas.Int.{ints}
 use Rattle.std.proofs.Math.Nat.{mod-eq_of_lt, pow-le-pow_right}
 use Rattle.std.specs.Prelude.{nat_lt, if◌then◌else◌, neg_ℤ, ◌≤ℤ◌, ◌<ℤ◌}
 use Rattle.std.proofs.lemmas.Bool.{and_parts, leb-true, ltb-true, ltb-false, lt-ltb, le-ltb, cases_lt}
-use Rattle.std.proofs.lemmas.List.{get_or_past}
 use Rattle.std.proofs.lemmas.Bool.Decides.{nat_tests}
 use Rattle.cm_types.specs.declared.resource.ResourceId.{ResourceId}
 use Rattle.cm_types.specs.Spellable.{is_spellable, are_spellable, are_spellable_payloads}
@@ -34,6 +33,7 @@ use Rattle.cm_abi_model.specs.Shows.{Shows, ShowFields, ShowsPayload, ShowEach, 
 use Rattle.cm_abi_model.specs.Stores.{Placed, Given, place_of, number_of, placed, bytes_of, from_signed, pointer_bytes, store_each, stored, stored_fields, stored_payload, Holds}
 use Rattle.cm_abi_model.specs.Views.{View, Way}
 use Rattle.cm_abi_model.proofs.StoredBytes.{holds_split, number_held, text_shown, units_fit}
+use Rattle.cm_handles.proofs.SoundHandles.{within_slots}
 
 -- ---- how many parts and handles
 
@@ -168,16 +168,6 @@ byte_at m p b e = omega (arith, e)
 
 -- ---- handles
 
--- an index at which something stands is among the slots
-stands_below : (t : Handles) (index : ℕ) (h : Handle) → handle_at t index ≡ Some h → index < length t.slots
-stands_below t index h stands = elim (cases_lt index (length t.slots)) [
-  | inl below ↦ below
-  | inr past ↦ absurd (none_is_not_some (sym (get_or_past t.slots index None past) ∙ stands))
-]
-  where
-    none_is_not_some : {x : Handle} → None ≡ Some x → ⊥
-    none_is_not_some e = cc
-
 handle_shown : (t : Handles) (index : ℕ) (kind : HandleKind) (h : HandleValue) (r : ResourceId) → h.resource ≡ r
     → handle_at t index ≡ Some (record { resource = h.resource; serial = h.serial; lends = 0; rep = h.rep; kind = kind })
     → ShowsHandle t index r h
@@ -238,7 +228,7 @@ module _ (w : View) (g : Given) (in_memory : length w.memory < 2 ^ 32) (is_store
   Stored t v p k h = Fit (stored g t v p k h) (parts_in t v) (leaves_in t v) k h
 
   index_fits : (n : ℕ) (e : Handle) → handle_at w.table n ≡ Some e → n < 2 ^ 32
-  index_fits n e stands = omega (arith, stands_below w.table n e stands, sound.limit)
+  index_fits n e stands = omega (arith, within_slots w.table n e stands, sound.limit)
 
   number_fit : (n p x : ℕ) → x < 256 ^ n → Holds w.memory (placed p (bytes_of n x)) → number_at n w.memory p ≡ x
   number_fit n p x small held = number_held n w.memory p x small held

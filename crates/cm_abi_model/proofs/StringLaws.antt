@@ -2,7 +2,6 @@
 use Rattle.std.proofs.Common.{◌≡◌, ℕ, zero, suc, ◌+◌, ◌-◌, ◌*◌, ◌/◌, ◌%◌, ◌^◌, ◌<◌, ◌≤◌, ◌⊎◌, inl, inr, Bool, true, false, List, [], ◌∷◌, ◌++◌, length, take, drop, slice_index, nat_lt, if◌then◌else◌, refl, sym, ap, subst, ◌∙◌, arith}
 use Rattle.std.proofs.Math.Seq.{drop-cons}
 use Rattle.std.proofs.lemmas.Bool.Decides.{nat_tests}
-use Rattle.std.proofs.lemmas.List.{get_or-drop, get_or-take, length-drop, length-take-le}
 use Rattle.std.proofs.lemmas.List.Concat.{flat_map-append}
 use Rattle.std.specs.Char.{IsScalar}
 use Rattle.std.specs.Char.Escape.{encode_utf16}
@@ -11,7 +10,7 @@ use lib.Utf8.{low_scalar}
 use Rattle.cm_types.specs.Types.{string}
 use Rattle.cm_types.specs.Values.{text}
 use Rattle.cm_text.specs.Text.{IsText}
-use Rattle.cm_text.specs.Latin1.{HasLatin1, spell_latin1}
+use Rattle.cm_text.specs.Latin1.{HasLatin1}
 use Rattle.cm_text.specs.Utf16.{bytes_of_unit, spell_utf16}
 use Rattle.cm_abi_model.specs.declared.encoding.StringEncoding.{StringEncoding}
 use Rattle.cm_abi_model.specs.declared.encoding.StringEncoding.TheVariants as encoding
@@ -22,11 +21,11 @@ use Rattle.cm_abi_model.specs.Views.{View}
 use Rattle.cm_abi_model.specs.Bytes.{AreBytes, StandsAt, byte_of}
 use Rattle.cm_abi_model.specs.Strings.{AreUnits, AreUnitsIn, IsString, IsStringAt, StandInRow, utf16_units, utf8_units}
 use Rattle.cm_abi_model.proofs.NumberLaws.{number_stands, stands_number}
+use Rattle.cm_text.proofs.PairLemmas.{latin1_spelled}
+use Rattle.cm_lemmas.proofs.Lists.{taken_at, taken_length}
+use Rattle.cm_text.proofs.Utf16Laws.{unit_length}
 
 -- ---- bytes in a row
-
-taken_at : (m : List ℕ) (at size i : ℕ) → i < size → slice_index (take size (drop at m)) i ≡ slice_index m (at + i)
-taken_at m at size i lt = get_or-take size (drop at m) i 0 lt ∙ get_or-drop at m i 0
 
 take_them : (m bs : List ℕ) (at : ℕ) → at + length bs ≤ length m → ((i : ℕ) → i < length bs → slice_index m (at + i) ≡ slice_index bs i) → take (length bs) (drop at m) ≡ bs
 take_them m [] at inside h = refl
@@ -63,10 +62,6 @@ row_bytes m xs at s =
     (λ i lt. ap (slice_index m) {x = at + i} {y = at + 1 * i} (omega arith) ∙ byte_one m (at + 1 * i) (slice_index xs i) (s.each i lt))
 
 -- ---- units in a row
-
-pub unit_length : (us : List ℕ) → length (flat_map bytes_of_unit us) ≡ 2 * length us
-unit_length [] = refl
-unit_length (u ∷ us) = omega (arith, unit_length us)
 
 pub units_flat : (cs : List ℕ) → flat_map spell_utf16 cs ≡ flat_map bytes_of_unit (utf16_units cs)
 units_flat [] = refl
@@ -126,13 +121,6 @@ row_units m us at s =
 
 -- ---- a string
 
-taken_length : (m : List ℕ) (at size : ℕ) → at + size ≤ length m → length (take size (drop at m)) ≡ size
-taken_length m at size inside = length-take-le size (drop at m) (omega (arith, length-drop at m, inside))
-
-pub latin1_flat : (cs : List ℕ) → flat_map spell_latin1 cs ≡ cs
-latin1_flat [] = refl
-latin1_flat (c ∷ cs) = ap (λ xs. c ∷ xs) (latin1_flat cs)
-
 latin1_scalars : (cs : List ℕ) → AllByRecursion HasLatin1 cs → AllByRecursion IsScalar cs
 latin1_scalars [] h = tt {0}
 latin1_scalars (c ∷ cs) h = (low_scalar c (omega (arith, h.0)), latin1_scalars cs h.1)
@@ -167,7 +155,7 @@ tagged_units : (b : Bool) (m cs : List ℕ) (at n : ℕ) → b ≡ nat_lt n UTF1
     → AllByRecursion IsScalar cs × (((n < 2 ^ 31) × AreUnits m 2 1 at n cs) ⊎ ((k : ℕ) × (n ≡ 2 ^ 31 + k) × AreUnits m 2 2 at k (utf16_units cs)))
 tagged_units true m cs at n e bytes aligned inside t =
     let small : n < 2 ^ 31 = grind (arith, nat_tests, e) in
-    (latin1_scalars cs t.all, inl (small, single_units m cs 2 at n (1 * n) bytes aligned (omega arith) inside (sym (latin1_flat cs) ∙ t.is)))
+    (latin1_scalars cs t.all, inl (small, single_units m cs 2 at n (1 * n) bytes aligned (omega arith) inside (sym (latin1_spelled cs) ∙ t.is)))
 tagged_units false m cs at n e bytes aligned inside t =
     let large : 2 ^ 31 ≤ n = grind (arith, nat_tests, e) in
     (t.all, inr (n - 2 ^ 31, omega (arith, large), double_units m cs at (n - 2 ^ 31) (2 * (n - 2 ^ 31)) bytes aligned refl inside t.is))
@@ -200,7 +188,7 @@ tagged_text : (b : Bool) (m cs : List ℕ) (at n : ℕ) → b ≡ nat_lt n UTF16
 tagged_text true m cs at n e all (inl u) =
     let t = single_text m cs 2 at n (1 * n) (omega arith) u.1 in
     let below : AllByRecursion HasLatin1 cs = all_below cs (λ i lt. omega (arith, (u.1.row.each i lt).below)) in
-    (u.1.aligned, t.0, record { all = below; is = latin1_flat cs ∙ t.1 })
+    (u.1.aligned, t.0, record { all = below; is = latin1_spelled cs ∙ t.1 })
 tagged_text true m cs at n e all (inr u) =
     let small : n < 2 ^ 31 = grind (arith, nat_tests, e) in
     absurd (omega (arith, small, u.1))

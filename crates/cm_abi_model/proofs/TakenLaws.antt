@@ -11,6 +11,8 @@ use Rattle.cm_handles.specs.Handles.{Handles, IsSoundHandles, after_lend, after_
 use Rattle.cm_handles.specs.declared.handle.Handle.{Handle}
 use Rattle.cm_abi_model.specs.Taken.{Met, content, text_content, taken, lent, after_met, after_one, taken_of, lent_of, GoesInTurn}
 use Rattle.cm_abi_model.specs.Handed.{IsHanded, times}
+use Rattle.cm_lemmas.proofs.Lists.{Contains-first, Contains-rest}
+use Rattle.cm_handles.proofs.HandleLaws.{none_is}
 
 -- what the laws on tables promise
 pub record Laws : Type 0 where
@@ -20,15 +22,6 @@ pub record Laws : Type 0 where
 first_or_rest : (x : ℕ) (xs : List ℕ) (y : ℕ) → Contains (x ∷ xs) y → (x ≡ y) ⊎ Contains xs y
 first_or_rest x xs y (zero, within, e) = inl e
 first_or_rest x xs y (suc k, within, e) = inr (k, omega (arith, within), e)
-
-first : (x : ℕ) (xs : List ℕ) → Contains (x ∷ xs) x
-first x xs = (0, omega arith, refl)
-
-rest : (x : ℕ) (xs : List ℕ) (y : ℕ) → Contains xs y → Contains (x ∷ xs) y
-rest x xs y c = (suc c.0, omega (arith, c.1), c.2)
-
-none_is : {a : Handle} → None ≡ Some a → ⊥
-none_is e = cc
 
 -- lent so often more
 abbrev more : ℕ → Handle → Handle
@@ -51,7 +44,7 @@ occurs k [] = 0
 occurs k (i ∷ is) = cond (i == k) (1 + occurs k is) (occurs k is)
 
 as_count : (k : ℕ) (is : List ℕ) → occurs k is ≡ times k is
-as_count k is = is_count_by (occurs k) (λ i. i == k) refl (λ i rest. refl) is
+as_count k is = is_count_by (occurs k) (λ i. i == k) refl (λ i Contains-rest. refl) is
 
 counted_here : (i j : ℕ) (is : List ℕ) → i ≡ j → times j (i ∷ is) ≡ 1 + times j is
 counted_here i j is e = sym (as_count j (i ∷ is)) ∙ (ap (λ b. cond b (1 + occurs j is) (occurs j is)) (eq-eqb i j e) ∙ ap (λ n. 1 + n) (as_count j is))
@@ -108,8 +101,8 @@ module _ (laws : Laws) where
   stays t most (content n ∷ ms) i s go none = stays t (most - n) ms i s go.1 none
   stays t most (taken j ∷ ms) i s go none =
       let step = laws.release t j go.0.entry s go.0.stands in
-      let other : i ≢ j = λ same. none (subst (Contains (j ∷ taken_of ms)) (sym same) (first j (taken_of ms))) in
-      stays (after_release t j) most ms i step.sound go.1 (λ c. none (rest j (taken_of ms) i c))
+      let other : i ≢ j = λ same. none (subst (Contains (j ∷ taken_of ms)) (sym same) (Contains-first j (taken_of ms))) in
+      stays (after_release t j) most ms i step.sound go.1 (λ c. none (Contains-rest j (taken_of ms) i c))
       ∙ ap (option_map (more (times i (lent_of ms)))) (step.changes.others i other)
   stays t most (lent j ∷ ms) i s go none =
       let step = laws.lend t j go.0.0 s go.0.1 in

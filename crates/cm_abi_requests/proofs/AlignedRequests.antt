@@ -1,30 +1,20 @@
 -- Each request has an alignment, since each type has one.
 use Rattle.std.proofs.Common.{◌≡◌, ℕ, zero, suc, ◌<◌, Bool, true, false, List, [], ◌∷◌, ◌++◌, length, arith, sym, subst}
 use Rattle.std.specs.Prelude.{max, nat_le, if◌then◌else◌}
-use Rattle.cm_types.specs.Types.{Ty, Fields, Cases, Width, bits_8, bits_16, bits_32, bits_64, width_bytes, bool, signed, unsigned, char, string, list, fixed_list, fields, cases, flags, own, borrow, no_fields, field, no_cases, plain, carrying}
+use Rattle.cm_types.specs.Types.{Ty, Fields, Cases, bool, signed, unsigned, char, string, list, fixed_list, fields, cases, flags, own, borrow, no_fields, field, no_cases, plain, carrying}
 use Rattle.cm_types.specs.Values.{Val, Vals, no_vals, val, truth, signed_number, number, scalar, text, elements, parts, bare, bearing, flag_set, handle, AllVals, HasType, HaveTypes, IsCarriedCase}
 use Rattle.cm_layout.specs.Sizes.{align_of, align_of_fields, align_of_payloads, case_count, discriminant_size, size_of}
 use Rattle.cm_abi_model.specs.declared.encoding.StringEncoding.{StringEncoding}
-use Rattle.cm_abi_model.specs.declared.encoding.StringEncoding.TheVariants as encoding
 use Rattle.cm_abi_model.specs.declared.request.Request.{Request}
 use Rattle.cm_abi_model.specs.Parts.{Part, element_part, parts_each, parts_in, parts_in_fields, parts_in_payload}
 use Rattle.cm_abi_model.specs.Requests.{call_parts, chain, read_charset, first_tag, growths, is_spilled, part_align, part_requests, part_sizes, requests, stored_charset, tags_behind, tuple_of}
-use Rattle.cm_abi_model.specs.Texts.{text_align}
 use Rattle.cm_abi_model.specs.Views.{Way}
 use Rattle.cm_abi_model.specs.Answering.{AreAligned}
+use Rattle.cm_lemmas.proofs.Bools.{picked_pos}
+use Rattle.cm_abi_model.proofs.TextsLaws.{text_some}
+use Rattle.cm_types.proofs.TypesLaws.{width_pos}
 
 -- ---- types
-
-pub width_some : (w : Width) → 0 < width_bytes w
-width_some bits_8 = omega arith
-width_some bits_16 = omega arith
-width_some bits_32 = omega arith
-width_some bits_64 = omega arith
-
-pub choice_some : (a b : Bool) → 0 < (if a then 1 else if b then 2 else 4)
-choice_some true b = omega arith
-choice_some false true = omega arith
-choice_some false false = omega arith
 
 max_some : (m n : ℕ) → 0 < m → 0 < max m n
 max_some m n some = omega arith
@@ -32,26 +22,21 @@ max_some m n some = omega arith
 mutual
   pub type_some : (t : Ty) → 0 < align_of t
   type_some bool = omega arith
-  type_some (signed w) = width_some w
-  type_some (unsigned w) = width_some w
+  type_some (signed w) = width_pos w
+  type_some (unsigned w) = width_pos w
   type_some char = omega arith
   type_some string = omega arith
   type_some (list t) = omega arith
   type_some (fixed_list t n) = type_some t
   type_some (fields k fs) = fields_some fs
-  type_some (cases k cs) = max_some (discriminant_size (case_count cs)) (align_of_payloads cs) (choice_some (nat_le (case_count cs) 256) (nat_le (case_count cs) 65536))
-  type_some (flags ls) = choice_some (nat_le (length ls) 8) (nat_le (length ls) 16)
+  type_some (cases k cs) = max_some (discriminant_size (case_count cs)) (align_of_payloads cs) (picked_pos (nat_le (case_count cs) 256) (nat_le (case_count cs) 65536))
+  type_some (flags ls) = picked_pos (nat_le (length ls) 8) (nat_le (length ls) 16)
   type_some (own r) = omega arith
   type_some (borrow r) = omega arith
 
   pub fields_some : (fs : Fields) → 0 < align_of_fields fs
   fields_some no_fields = omega arith
   fields_some (field l t fs) = max_some (align_of t) (align_of_fields fs) (type_some t)
-
-text_some : (e : StringEncoding) → 0 < text_align e
-text_some encoding.Utf8 = omega arith
-text_some encoding.Utf16 = omega arith
-text_some encoding.Latin1OrUtf16 = omega arith
 
 -- ---- parts
 

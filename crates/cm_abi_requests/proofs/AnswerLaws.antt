@@ -1,20 +1,22 @@
 -- Where no answer has a fault, the parts are placed.
-use Rattle.std.proofs.Common.{◌≡◌, ℕ, zero, suc, ◌+◌, ◌*◌, ◌/◌, ◌%◌, ◌≤◌, Bool, true, false, List, [], ◌∷◌, ◌++◌, length, drop, refl, sym, ap, subst, ◌∙◌, arith, add-one, map, Some, None, Option, inl, inr, ◌↔◌}
+use Rattle.std.proofs.Common.{◌≡◌, ℕ, zero, suc, ◌+◌, ◌/◌, ◌%◌, ◌≤◌, Bool, true, false, List, [], ◌∷◌, ◌++◌, length, drop, refl, sym, ap, subst, ◌∙◌, arith, add-one, map, Some, None, inl, inr, ◌↔◌}
 use Rattle.std.proofs.Math.Nat.{div-add-mod, mul_comm}
 use Rattle.std.proofs.lemmas.Bool.{eqb-true, ltb-false}
 use Rattle.std.specs.Prelude.{not, nat_lt, slice_index, if◌then◌else◌, ◌==◌}
 use Rattle.cm_abi_model.specs.declared.encoding.StringEncoding.{StringEncoding}
-use Rattle.cm_abi_model.specs.declared.fault.AbiFault.{AbiFault}
 use Rattle.cm_abi_model.specs.declared.fault.AbiFault.TheVariants as fault
 use Rattle.cm_abi_model.specs.declared.request.Request.{Request}
-use Rattle.cm_abi_model.specs.Parts.{Part, text_part, element_part}
+use Rattle.cm_abi_model.specs.Parts.{Part}
 use Rattle.cm_abi_model.specs.Regions.{AreApart, ArePlaced, IsInPart, IsPlaced, part_size}
-use Rattle.cm_abi_model.specs.Requests.{HasScalars, IsStored, chain, read_charset, first_tag, growths, last_size, part_align, part_requests, part_sizes, shrunk, stored_charset, tags_behind, text_sizes}
+use Rattle.cm_abi_model.specs.Requests.{HasScalars, IsStored, chain, read_charset, first_tag, growths, last_size, part_align, part_requests, part_sizes, stored_charset, tags_behind}
 use Rattle.cm_abi_model.specs.Stores.{Given, place_of}
-use Rattle.cm_abi_model.specs.Texts.{Charset, IsAligned, utf8, utf16, latin1}
-use Rattle.cm_abi_model.specs.Answering.{AreCounted, HaveScalars, begins_part, fault_before, first_fault, places_of, regions_of}
+use Rattle.cm_abi_model.specs.Texts.{Charset, IsAligned}
+use Rattle.cm_abi_model.specs.Answering.{AreCounted, HaveScalars, begins_part, first_fault, places_of, regions_of}
 use Rattle.cm_abi_model.specs.Overlap.{AreDisjoint, IsInOne}
 use Rattle.cm_abi_model.specs.declared.region.Region.{Region}
+use Rattle.cm_abi_model.proofs.AnsweringLaws.{before_one}
+use Rattle.cm_abi_model.proofs.FaultLaws.{choice}
+use Rattle.cm_abi_model.proofs.RequestsLaws.{sizes_some, starts}
 
 -- ---- one answer
 
@@ -24,19 +26,10 @@ IsFine n align size at = (if not (at % align == 0) then Some fault.Misaligned el
 multiple : (align at : ℕ) → at % align ≡ 0 → IsAligned align at
 multiple align at z = (at / align, omega (arith, z, div-add-mod at align, mul_comm align (at / align)))
 
-choice : (a b : Bool) → (if not a then Some fault.Misaligned else (if b then Some fault.PointerBounds else None)) ≡ None → (a ≡ true) × (b ≡ false)
-choice true true h = absurd (cc)
-choice true false h = (refl, refl)
-choice false b h = absurd (cc)
-
 fine_is : (n align size at : ℕ) → IsFine n align size at → IsAligned align at × (at + size ≤ n)
 fine_is n align size at h =
     let both = choice (at % align == 0) (nat_lt n (at + size)) h in
     (multiple align at (eqb-true (at % align) 0 both.0), ltb-false n (at + size) both.1)
-
-before_one : (f later : Option AbiFault) → fault_before f later ≡ None → (f ≡ None) × (later ≡ None)
-before_one None later h = (refl, h)
-before_one (Some f) later h = absurd (cc)
 
 -- ---- the answers for one part
 
@@ -64,39 +57,6 @@ one_part n align r (s ∷ ss) rest (a ∷ as') al st len =
     record { at = more.at; behind = more.behind; are = more.are; fine = λ ok. more.fine (before_one _ _ ok).1; counted = more.counted }
 
 -- ---- each part is asked for
-
-abbrev Some1 : List ℕ → Type 0
-Some1 sizes = (x : ℕ) × ((xs : List ℕ) × (sizes ≡ x ∷ xs))
-
-shrunk_some : (size exact : ℕ) (b : Bool) → Some1 (if b then size ∷ exact ∷ [] else size ∷ [])
-shrunk_some size exact true = (size, (exact ∷ [], refl))
-shrunk_some size exact false = (size, ([], refl))
-
-grown_some : (units : ℕ) (more : List ℕ) (b : Bool) → Some1 (if b then units ∷ more else units ∷ [])
-grown_some units more true = (units, (more, refl))
-grown_some units more false = (units, ([], refl))
-
-text_some : (s t : Charset) (units exact : ℕ) → Some1 (text_sizes s t units exact)
-text_some utf8 utf8 units exact = (exact, ([], refl))
-text_some utf8 utf16 units exact = shrunk_some (2 * units) exact (nat_lt exact (2 * units))
-text_some utf8 latin1 units exact = (exact, ([], refl))
-text_some utf16 utf8 units exact = grown_some units (shrunk (3 * units) exact) (nat_lt units exact)
-text_some utf16 utf16 units exact = (exact, ([], refl))
-text_some utf16 latin1 units exact = (exact, ([], refl))
-text_some latin1 utf8 units exact = grown_some units (shrunk (2 * units) exact) (nat_lt units exact)
-text_some latin1 utf16 units exact = (exact, ([], refl))
-text_some latin1 latin1 units exact = (exact, ([], refl))
-
-sizes_some : (s t : Charset) (p : Part) → Some1 (part_sizes s t p)
-sizes_some s t (text_part cs) = text_some s t _ _
-sizes_some s t (element_part count size align) = (count * size, ([], refl))
-
-begins : (align : ℕ) (sizes : List ℕ) (rest : List Request) → Some1 sizes → begins_part (chain align sizes ++ rest) ≡ true
-begins align sizes rest some = rw some.1.1 refl
-
-starts : (source target : StringEncoding) (tags : List Bool) (parts : List Part) → begins_part (part_requests source target tags parts) ≡ true
-starts source target tags [] = refl
-starts source target tags (p ∷ ps) = begins (part_align target p) _ (part_requests source target (tags_behind p tags) ps) (sizes_some (read_charset source (first_tag tags)) (stored_charset target) p)
 
 -- ---- all parts
 

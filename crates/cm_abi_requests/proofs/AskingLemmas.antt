@@ -7,7 +7,7 @@ use Rattle.cm_types.specs.Values.{Val, Vals, no_vals, val, truth, signed_number,
 use Rattle.cm_layout.specs.Alignment.{align_to}
 use Rattle.cm_layout.specs.Flattening.{flat_of_fields}
 use Rattle.cm_layout.specs.Layouts.{nothings, part_of}
-use Rattle.cm_layout.specs.Shapes.{LayoutTy, Payloads, cases_shape, head_of, layout_of_fields_at, part, parts_at, parts_from, payload_before, payloads_from, payloads_of, shape_of_type}
+use Rattle.cm_layout.specs.Shapes.{LayoutTy, Payloads, cases_shape, head_of, layout_of_fields_at, parts_at, parts_from, payload_before, payloads_from, payloads_of, shape_of_type}
 use Rattle.cm_layout.specs.Sizes.{align_of, size_of}
 use Rattle.cm_layout.specs.declared.heads.Head.{Head}
 use Rattle.cm_layout.specs.declared.layouts.Part.{Part as CodedPart}
@@ -22,6 +22,8 @@ use Rattle.cm_abi_model.specs.Texts.{Charset, text_align}
 use Rattle.cm_abi_model.specs.Views.{Way, flat_limit}
 use Rattle.cm_abi_model.specs.RecordRequests.{first_request}
 use Rattle.cm_abi_requests.specs.Asking.{AreSmall, Asking, ask_all, ask_part, content_of_parts, parts_by, parts_by_case, parts_by_fields, parts_by_payload, tuple_request}
+use Rattle.cm_layout.proofs.LayoutsLaws.{parts_next}
+use Rattle.cm_types.proofs.ValueTreesLaws.{values_next}
 
 abbrev pub asking : List Request → List Bool → Asking
 asking rs tags = record { requests = rs; tags = tags }
@@ -51,23 +53,6 @@ small_content source tags [] le = tt
 small_content source tags (p ∷ ps) le = (omega (arith, le), small_content source (tags_behind p tags) ps (omega (arith, le)))
 
 -- ---- values in a row
-
-pub values_next : (vs : List Value) (i : ℕ) (v : Value) → i < length vs → v ≡ get_or vs i v → values_of (drop i vs) ≡ val (value_of v) (values_of (drop (i + 1) vs))
-values_next vs i v lt is =
-    let split : drop i vs ≡ v ∷ drop (i + 1) vs = rw (add-one, drop-cons vs i v lt, ← is) refl in
-    rw split refl
-
-pub parts_next : (ps : List CodedPart) (i : ℕ) (p : CodedPart) → i < length ps → p ≡ get_or ps i p
-    → parts_from (map part_of (drop i ps)) ≡ part (part_of p).0 (part_of p).1.head (part_of p).1.shape (parts_from (map part_of (drop (i + 1) ps)))
-parts_next ps i p lt is =
-    let split : drop i ps ≡ p ∷ drop (i + 1) ps = rw (add-one, drop-cons ps i p lt, ← is) refl in
-    rw split refl
-
-pub drop_past : {X : Type 0} (xs : List X) (i : ℕ) → length xs ≤ i → drop i xs ≡ []
-drop_past [] zero past = refl
-drop_past [] (suc i) past = refl
-drop_past (x ∷ xs) zero past = absurd (omega arith)
-drop_past (x ∷ xs) (suc i) past = drop_past xs i (omega arith)
 
 -- one more of some parts was asked for
 pub turn : (source target : StringEncoding) (head rest : List Part) (s behind total : Asking)

@@ -1,7 +1,7 @@
 -- The content of the parts of a value is that which is met where it is read, and their strings are
 -- spelled there, by the tags that are met.
-use Rattle.std.proofs.Common.{◌≡◌, ℕ, zero, suc, ◌+◌, ◌*◌, ◌≤◌, Bool, true, false, List, [], ◌∷◌, ◌++◌, length, drop, refl, sym, ap, subst, ◌∙◌, arith, length-drop}
-use Rattle.std.specs.Prelude.{not, nat_lt, if◌then◌else◌}
+use Rattle.std.proofs.Common.{◌≡◌, ℕ, zero, suc, ◌+◌, ◌*◌, ◌≤◌, Bool, List, [], ◌∷◌, ◌++◌, length, drop, refl, sym, ap, subst, ◌∙◌, arith, length-drop}
+use Rattle.std.specs.Prelude.{not, nat_lt}
 use Rattle.std.specs.List.{AllByRecursion}
 use Rattle.std.proofs.lemmas.List.{append_assoc, append-nil, length-take-le}
 use Rattle.cm_types.specs.Types.{Ty, Fields, Cases, bool, signed, unsigned, char, string, list, fixed_list, fields, cases, flags, own, borrow, no_fields, field, no_cases, plain, carrying}
@@ -14,11 +14,13 @@ use Rattle.cm_abi_model.specs.Numbers.{number_at}
 use Rattle.cm_abi_model.specs.Parts.{Part, text_part, element_part, parts_each, parts_in, parts_in_fields, parts_in_payload}
 use Rattle.cm_abi_model.specs.Requests.{HasScalars, IsStored, read_charset, first_tag, tagged_charset, tags_behind, text_bytes}
 use Rattle.cm_abi_model.specs.Shows.{ShowEach, ShowFields, Shows, ShowsPayload}
-use Rattle.cm_abi_model.specs.Taken.{Met, text_content, content, taken, lent, content_of, tags_of, met_at, met_each, met_in_fields, met_in_payload, met_text}
-use Rattle.cm_abi_model.specs.Texts.{Has, ShowsText, UTF16_TAG, charset_of, latin1, tag_of, text_size, utf16}
+use Rattle.cm_abi_model.specs.Taken.{Met, content, content_of, tags_of, met_at, met_each, met_in_fields, met_in_payload, met_text}
+use Rattle.cm_abi_model.specs.Texts.{Has, ShowsText, UTF16_TAG, charset_of, tag_of, text_size}
 use Rattle.cm_abi_model.specs.Views.{View}
 use Rattle.cm_abi_model.specs.Answering.{HaveScalars}
 use Rattle.cm_abi_requests.specs.Asking.{content_of_parts, part_content}
+use Rattle.cm_abi_model.proofs.TextsLaws.{by_tag}
+use Rattle.cm_abi_model.proofs.TakenLemmas.{content_both, tags_both}
 
 -- ---- tags say nothing of what is stored
 
@@ -59,20 +61,6 @@ tagged_both e ts us ps qs n m h k = λ rest rs.
     let sum : n + content_of_parts e (us ++ rest) (qs ++ rs) ≡ (n + m) + content_of_parts e rest rs = omega (arith, later.0) in
     rw (append_assoc ts us rest, append_assoc ps qs rs) (first.0 ∙ sum, λ x. first.1 (later.1 x))
 
-content_both : (ms ns : List Met) → content_of (ms ++ ns) ≡ content_of ms + content_of ns
-content_both [] ns = omega arith
-content_both (text_content tags n ∷ ms) ns = let rest = content_both ms ns in omega (arith, rest)
-content_both (content n ∷ ms) ns = let rest = content_both ms ns in omega (arith, rest)
-content_both (taken i ∷ ms) ns = content_both ms ns
-content_both (lent i ∷ ms) ns = content_both ms ns
-
-tags_both : (ms ns : List Met) → tags_of (ms ++ ns) ≡ tags_of ms ++ tags_of ns
-tags_both [] ns = refl
-tags_both (text_content tags n ∷ ms) ns = ap (λ ts. tags ++ ts) (tags_both ms ns) ∙ sym (append_assoc tags (tags_of ms) (tags_of ns))
-tags_both (content n ∷ ms) ns = tags_both ms ns
-tags_both (taken i ∷ ms) ns = tags_both ms ns
-tags_both (lent i ∷ ms) ns = tags_both ms ns
-
 pub both : (e : StringEncoding) (ps qs : List Part) (ms ns : List Met) → Counts e ps ms → Counts e qs ns → Counts e (ps ++ qs) (ms ++ ns)
 both e ps qs ms ns h k =
     let one = tagged_both e (tags_of ms) (tags_of ns) ps qs (content_of ms) (content_of ns) h k in
@@ -80,10 +68,6 @@ both e ps qs ms ns h k =
     (subst (λ n. Tagged e (tags_of ms ++ tags_of ns) (ps ++ qs) n) (sym (content_both ms ns)) one)
 
 -- ---- strings
-
-by_tag : (b : Bool) → tagged_charset (not b) ≡ (if b then latin1 else utf16)
-by_tag true = refl
-by_tag false = refl
 
 text_tagged : (e : StringEncoding) (n : ℕ) (cs : List ℕ) → length (text_bytes (charset_of e n) cs) ≡ text_size e n → AllByRecursion (Has (charset_of e n)) cs
     → Tagged e (tag_of e n ++ []) (text_part cs ∷ []) (text_size e n + 0)

@@ -9,28 +9,23 @@ use Rattle.cm_types.specs.Spellable.{are_spellable, are_spellable_payloads, has_
 use Rattle.cm_types.specs.Types.{Ty, Fields, Cases, Width, bits_8, bits_16, bits_32, bits_64, width_bytes, bool, signed, unsigned, char, string, list, fixed_list, fields, cases, flags, own, borrow, no_fields, field, no_cases, plain, carrying}
 use Rattle.cm_types.specs.Values.{Val, Vals, no_vals, val, truth, signed_number, number, scalar, text, elements, parts, bare, bearing, flag_set, handle, count_of, AllVals, HasType, HaveTypes, IsCarriedCase, IsScalarValue}
 use Rattle.cm_layout.specs.Alignment.{align_to}
-use Rattle.cm_layout.specs.Sizes.{align_of, align_of_fields, align_of_payloads, case_count, discriminant_size, end_of, flags_size, greatest_payload, payload_offset, size_of}
+use Rattle.cm_layout.specs.Sizes.{align_of, align_of_fields, case_count, discriminant_size, end_of, flags_size, greatest_payload, payload_offset, size_of}
 use Rattle.cm_abi_model.specs.declared.encoding.StringEncoding.{StringEncoding}
 use Rattle.cm_abi_model.specs.Parts.{Part, text_part, element_part, parts_each, parts_in, parts_in_fields, parts_in_payload}
 use Rattle.cm_abi_model.specs.Requests.{IsStored, first_tag, read_charset, tags_behind, tuple_of}
 use Rattle.cm_abi_model.specs.Taken.{MAX_CONTENT}
 use Rattle.cm_abi_model.specs.Answering.{AreCounted, HaveScalars}
 use Rattle.cm_abi_requests.specs.Asking.{content_of_parts, part_content}
-use Rattle.cm_abi_requests.proofs.AlignedRequests.{choice_some, fields_some, type_some, width_some}
+use Rattle.cm_abi_requests.proofs.AlignedRequests.{fields_some, type_some}
+use Rattle.cm_lemmas.proofs.Bools.{picked_pos}
+use Rattle.cm_layout.proofs.LaidLaws.{end_grows}
+use Rattle.cm_layout.proofs.SizesLaws.{payloads_pos}
+use Rattle.cm_types.proofs.TypesLaws.{width_pos}
 
 -- ---- sizes
 
 behind : (a e : ℕ) → 0 < a → e ≤ align_to a e
 behind a e some = omega (arith, some, lt-div-mul-add {a = e + (a - 1)} {b = a} some)
-
-end_behind : (fs : Fields) (at : ℕ) → at ≤ end_of fs at
-end_behind no_fields at = omega arith
-end_behind (field l t fs) at = omega (arith, behind (align_of t) at (type_some t), end_behind fs (align_to (align_of t) at + size_of t))
-
-payloads_some : (cs : Cases) → 0 < align_of_payloads cs
-payloads_some no_cases = omega arith
-payloads_some (plain l cs) = payloads_some cs
-payloads_some (carrying l t cs) = let rest = payloads_some cs in omega (arith, rest)
 
 product_some : (m n : ℕ) → 0 < m → 0 < n → 0 < m * n
 product_some zero n some more = absurd (omega (arith, some))
@@ -39,8 +34,8 @@ product_some (suc m) n some more = omega (arith, more)
 mutual
   pub size_some : (t : Ty) → is_spellable t ≡ true → 0 < size_of t
   size_some bool is = omega arith
-  size_some (signed w) is = width_some w
-  size_some (unsigned w) is = width_some w
+  size_some (signed w) is = width_pos w
+  size_some (unsigned w) is = width_pos w
   size_some char is = omega arith
   size_some string is = omega arith
   size_some (list t) is = omega arith
@@ -51,10 +46,10 @@ mutual
       let both = and_parts (not (has_no_fields fs)) (are_spellable fs) is in
       omega (arith, first_some fs both.0 both.1, behind (align_of_fields fs) (end_of fs 0) (fields_some fs))
   size_some (cases k cs) is =
-      let low : discriminant_size (case_count cs) ≤ payload_offset cs = behind _ (discriminant_size (case_count cs)) (payloads_some cs) in
-      let some : 0 < discriminant_size (case_count cs) = choice_some (nat_le (case_count cs) 256) (nat_le (case_count cs) 65536) in
+      let low : discriminant_size (case_count cs) ≤ payload_offset cs = behind _ (discriminant_size (case_count cs)) (payloads_pos cs) in
+      let some : 0 < discriminant_size (case_count cs) = picked_pos (nat_le (case_count cs) 256) (nat_le (case_count cs) 65536) in
       omega (arith, low, some, behind (align_of (cases k cs)) (payload_offset cs + greatest_payload cs) (type_some (cases k cs)))
-  size_some (flags ls) is = choice_some (nat_le (length ls) 8) (nat_le (length ls) 16)
+  size_some (flags ls) is = picked_pos (nat_le (length ls) 8) (nat_le (length ls) 16)
   size_some (own r) is = omega arith
   size_some (borrow r) is = omega arith
 
@@ -62,7 +57,7 @@ mutual
   first_some no_fields some is = absurd (cc)
   first_some (field l t fs) some is =
       let both = and_parts (is_spellable t) (are_spellable fs) is in
-      omega (arith, size_some t both.0, end_behind fs (align_to (align_of t) 0 + size_of t))
+      omega (arith, size_some t both.0, end_grows fs (align_to (align_of t) 0 + size_of t))
 
 -- ---- parts
 

@@ -1,6 +1,5 @@
 -- The content of the parts of a value is that which is met where core values pass it.
-use Rattle.std.proofs.Common.{◌≡◌, ℕ, zero, suc, ◌+◌, Bool, true, false, List, [], ◌∷◌, length, ap, refl, subst, sym, ◌∙◌, inl, inr}
-use Rattle.std.specs.Prelude.{if◌then◌else◌}
+use Rattle.std.proofs.Common.{◌≡◌, ℕ, zero, suc, ◌+◌, Bool, true, false, List, [], ◌∷◌, length, refl, subst, sym, ◌∙◌, inl, inr}
 use Rattle.std.proofs.lemmas.Bool.{le-ltb, lt-ltb}
 use Rattle.cm_types.specs.declared.core_value.CoreValue.{CoreValue}
 use Rattle.cm_types.specs.Types.{Ty, Fields, Cases, bool, signed, unsigned, char, string, list, fixed_list, fields, cases, flags, own, borrow, no_fields, field, no_cases, plain, carrying}
@@ -11,13 +10,14 @@ use Rattle.cm_abi_model.specs.Denotes.{Denotes}
 use Rattle.cm_abi_model.specs.FlatShows.{FlatShowFields, FlatShows, FlatShowsPayload, width_of}
 use Rattle.cm_abi_model.specs.Numbers.{wrapped_at}
 use Rattle.cm_abi_model.specs.Parts.{parts_each, parts_in, parts_in_fields, parts_in_payload}
-use Rattle.cm_abi_model.specs.Requests.{IsStored, is_spilled, tuple_of}
+use Rattle.cm_abi_model.specs.Requests.{IsStored, tuple_of}
 use Rattle.cm_abi_model.specs.Shows.{Shows}
 use Rattle.cm_abi_model.specs.Taken.{content_of, tags_of, met, met_at, met_each, met_flat, met_flat_fields, met_flat_payload}
 use Rattle.cm_abi_model.specs.Views.{View, Way, flat_limit}
 use Rattle.cm_abi_model.specs.Answering.{HaveScalars}
 use Rattle.cm_abi_requests.specs.Asking.{content_of_parts}
 use Rattle.cm_abi_requests.proofs.ContentLaws.{Counts, both, counts, counts_alone, each_counts, list_counts, none, same_content, text_counts}
+use Rattle.cm_abi_model.proofs.MetThere.{met_as}
 
 mutual
   flat_counts : (w : View) (s : List CoreValue) (t : Ty) (k : ℕ) (v : Val) → FlatShows w s t k v → Counts w.encoding (parts_in t v) (met_flat w s t k v)
@@ -52,10 +52,6 @@ mutual
   flat_payload_counts w s (plain l cs) k (suc i) v h = flat_payload_counts w s cs k i v h
   flat_payload_counts w s (carrying l t cs) k zero v h = flat_counts w s t k v h
   flat_payload_counts w s (carrying l t cs) k (suc i) v h = flat_payload_counts w s cs k i v h
-
-met_as : (w : View) (way : Way) (types : Fields) (slots : List CoreValue) (v : Val) (b : Bool) → is_spilled way types ≡ b
-    → met w way types slots v ≡ (if b then met_at w (tuple_of types) (wrapped_at 4 slots 0) v else met_flat w slots (tuple_of types) 0 v)
-met_as w way types slots v b is = ap (λ c. if c then met_at w (tuple_of types) (wrapped_at 4 slots 0) v else met_flat w slots (tuple_of types) 0 v) is
 
 passed_tagged : (w : View) (way : Way) (types : Fields) (slots : List CoreValue) (v : Val) → Denotes w way types slots v → Counts w.encoding (parts_in (tuple_of types) v) (met w way types slots v)
 passed_tagged w way types slots v h = elim h [

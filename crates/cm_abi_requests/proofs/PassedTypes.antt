@@ -1,7 +1,6 @@
 -- What is denoted has its type, and its parts are texts and lists that can be asked for.
 use Rattle.std.proofs.Common.{◌≡◌, ℕ, zero, suc, ◌+◌, ◌*◌, ◌^◌, ◌<◌, Bool, true, false, List, [], ◌∷◌, ◌++◌, length, arith, ap, subst, sym, inl, inr}
 use Rattle.std.specs.Prelude.{if◌then◌else◌, slice_index}
-use Rattle.std.specs.Char.{IsScalar}
 use Rattle.std.specs.List.{AllByRecursion}
 use Rattle.std.proofs.Math.Nat.{mod-lt}
 use Rattle.std.proofs.lemmas.Bool.Decides.{nat_tests}
@@ -22,6 +21,7 @@ use Rattle.cm_abi_model.specs.Answering.{AreCounted, HaveScalars}
 use Rattle.cm_abi_model.specs.Shows.{ShowEach, ShowFields, Shows, ShowsPayload}
 use Rattle.cm_abi_model.specs.Texts.{Charset, Has, charset_of, latin1, utf16, utf8}
 use Rattle.cm_abi_model.specs.Views.{View, Way}
+use Rattle.cm_types.proofs.ValuesLaws.{are_scalars}
 
 -- ---- numbers
 
@@ -192,16 +192,9 @@ counted_call : (size align : ℕ) (ps : List Part) (b : Bool) → AreSound ps �
 counted_call size align ps true h = (omega arith, counted_from ps h)
 counted_call size align ps false h = counted_from ps h
 
-scalar_back : (c : ℕ) → IsScalarValue c → IsScalar c
-scalar_back c h = grind (arith, nat_tests)
-
-scalars_back : (cs : List ℕ) → AllByRecursion IsScalarValue cs → AllByRecursion IsScalar cs
-scalars_back [] all = tt
-scalars_back (c ∷ cs) all = (scalar_back c all.0, scalars_back cs all.1)
-
 text_back : (e : StringEncoding) (tag : Bool) (cs : List ℕ) → IsStored e → AllByRecursion IsScalarValue cs → HasScalars (read_charset e tag) (text_part cs)
-text_back encoding.Utf8 tag cs stored all = scalars_back cs all
-text_back encoding.Utf16 tag cs stored all = scalars_back cs all
+text_back encoding.Utf8 tag cs stored all = are_scalars cs all
+text_back encoding.Utf16 tag cs stored all = are_scalars cs all
 text_back encoding.Latin1OrUtf16 tag cs stored all = absurd stored
 
 -- the scalars of each string are scalars

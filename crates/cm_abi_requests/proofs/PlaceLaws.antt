@@ -1,5 +1,5 @@
 -- The regions of parts, each at its place.
-use Rattle.std.proofs.Common.{◌≡◌, ◌↔◌, ℕ, zero, suc, ◌+◌, ◌<◌, ◌≤◌, List, [], ◌∷◌, ◌++◌, drop, length, get_or, drop-cons, add-one, inl, inr, refl, sym, ap, subst, ◌∙◌, arith, append-nil, append_assoc}
+use Rattle.std.proofs.Common.{◌≡◌, ◌↔◌, ℕ, suc, ◌+◌, ◌<◌, ◌≤◌, List, [], ◌∷◌, ◌++◌, drop, length, get_or, drop-cons, add-one, inl, inr, refl, sym, ap, subst, ◌∙◌, arith, append-nil, append_assoc}
 use Rattle.std.specs.Prelude.{slice_index}
 use Rattle.cm_abi_model.specs.declared.encoding.StringEncoding.{StringEncoding}
 use Rattle.cm_abi_model.specs.Parts.{Part}
@@ -12,6 +12,7 @@ use Rattle.cm_abi_model.specs.declared.record.PartRecord.{PartRecord}
 use Rattle.cm_abi_model.specs.Telling.{TellAll}
 use Rattle.cm_abi_model.specs.Placing.{regions_at}
 use Rattle.cm_abi_model.specs.RecordRequests.{AreAskable, IsAskable}
+use Rattle.cm_lemmas.proofs.Lists.{drop_past}
 
 -- ---- one after another
 
@@ -35,14 +36,8 @@ one_more_region rs places done behind i d e x lt within is pushed so =
     let next = next_region rs places i d e lt within in
     rw pushed (append_assoc done (x ∷ []) (regions_at (drop (i + 1) rs) (drop (i + 1) places)) ∙ (ap (λ y. done ++ y ∷ regions_at (drop (i + 1) rs) (drop (i + 1) places)) is ∙ (ap (λ xs. done ++ xs) (sym next) ∙ so)))
 
-past : {X : Type 0} (xs : List X) (i : ℕ) → length xs ≤ i → drop i xs ≡ []
-past [] zero le = refl
-past [] (suc i) le = refl
-past (x ∷ xs) zero le = absurd (omega (arith, le))
-past (x ∷ xs) (suc i) le = past xs i (omega (arith, le))
-
 pub all_regions : (rs : List PartRecord) (places : List ℕ) (done : List Region) (i : ℕ) → length rs ≤ i → done ++ regions_at (drop i rs) (drop i places) ≡ regions_at rs places → done ≡ regions_at rs places
-all_regions rs places done i le so = sym (append-nil done) ∙ (ap (λ xs. done ++ regions_at xs (drop i places)) (sym (past rs i le)) ∙ so)
+all_regions rs places done i le so = sym (append-nil done) ∙ (ap (λ xs. done ++ regions_at xs (drop i places)) (sym (drop_past rs i le)) ∙ so)
 
 -- ---- the regions of parts that records tell
 

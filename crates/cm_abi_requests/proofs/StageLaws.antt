@@ -16,6 +16,8 @@ use Rattle.cm_abi_model.specs.declared.record.PartRecord.{PartRecord}
 use Rattle.cm_abi_model.specs.Answered.{IsAllAnswered, IsAnswered, Requesting, all_requests, last_answer, next_of, unanswered, with_last, with_old}
 use Rattle.cm_abi_model.specs.RecordRequests.{AreAskable, IsAskable, kind_sizes, record_requests, requests_for}
 use Rattle.cm_abi_requests.specs.Stages.{AreSizesOfFirst, IsAtStage, IsStage, answered_count, requesting_of}
+use Rattle.cm_lemmas.proofs.Lists.{get_behind, get_left}
+use Rattle.cm_abi_model.proofs.AnsweredLaws.{last_push}
 
 -- how far the requests are answered
 pub record Stage : Type 0 where
@@ -143,11 +145,6 @@ chain_begins : (align : ℕ) (sizes : List ℕ) → 0 < length sizes → begins_
 chain_begins align [] some = absurd (omega (arith, some))
 chain_begins align (size ∷ sizes) some = refl
 
-last_push : (answers : List ℕ) (a : ℕ) → last_answer (answers ++ a ∷ []) ≡ a
-last_push [] a = refl
-last_push (b ∷ []) a = refl
-last_push (b ∷ c ∷ answers) a = last_push (c ∷ answers) a
-
 -- ---- requests for more parts
 
 pub requests_both : (source target : StringEncoding) (rs qs : List PartRecord) → requests_for source target (rs ++ qs) ≡ requests_for source target rs ++ requests_for source target qs
@@ -159,17 +156,6 @@ requests_both source target (r ∷ rs) qs =
 requests_more : (source target : StringEncoding) (rs : List PartRecord) (r : PartRecord) → requests_for source target (rs ++ r ∷ []) ≡ requests_for source target rs ++ record_requests source target r
 requests_more source target rs r =
     requests_both source target rs (r ∷ []) ∙ ap (λ xs. requests_for source target rs ++ xs) (append-nil (record_requests source target r))
-
-get_behind : {X : Type 0} (xs ys : List X) (k : ℕ) → slice_get (xs ++ ys) (length xs + k) ≡ slice_get ys k
-get_behind [] ys k = let same : 0 + k ≡ k = omega arith in ap (slice_get ys) same
-get_behind (x ∷ xs) ys k =
-    let same : length (x ∷ xs) + k ≡ suc (length xs + k) = omega arith in
-    ap (slice_get (x ∷ (xs ++ ys))) same ∙ get_behind xs ys k
-
-get_front : {X : Type 0} (xs ys : List X) (k : ℕ) → k < length xs → slice_get (xs ++ ys) k ≡ slice_get xs k
-get_front [] ys k lt = absurd (omega (arith, lt))
-get_front (x ∷ xs) ys zero lt = refl
-get_front (x ∷ xs) ys (suc k) lt = get_front xs ys k (omega (arith, lt))
 
 -- the record of the next part
 pub next_record : (s : Stage) (answers : List ℕ) (h : IsSplit s answers) → slice_get s.records (length s.places) ≡ slice_get h.rest 0
@@ -200,7 +186,7 @@ some_there : (source target : StringEncoding) (rest : List PartRecord) (stage : 
 some_there source target [] stage r is within = absurd (cc)
 some_there source target (q ∷ rs) stage r is within =
     let same : q ≡ r = cc in
-    get_front (record_requests source target q) (requests_for source target rs) stage within ∙ ap (λ x. slice_get (record_requests source target x) stage) same
+    get_left (record_requests source target q) (requests_for source target rs) stage within ∙ ap (λ x. slice_get (record_requests source target x) stage) same
 
 -- behind the last part there is no request
 pub next_none : (s : Stage) (answers : List ℕ) → IsSplit s answers → slice_get s.records (length s.places) ≡ None → next_of (asked_by s) answers ≡ None

@@ -1,20 +1,18 @@
 -- How many bytes texts take.
-use Rattle.std.proofs.Common.{◌≡◌, ℕ, suc, ◌*◌, ◌<◌, ◌≤◌, ◌&&◌, true, List, [], ◌∷◌, ◌++◌, length, refl, sym, ap, subst, ◌∙◌, arith, length-append}
+use Rattle.std.proofs.Common.{◌≡◌, ℕ, suc, ◌*◌, ◌<◌, ◌≤◌, ◌&&◌, true, List, [], ◌∷◌, length, refl, ap, subst, arith, length-append}
 use Rattle.std.proofs.Math.Seq.{take-length}
 use Rattle.std.proofs.lemmas.Bool.{and_parts}
 use Rattle.std.proofs.lemmas.Bool.Decides.{nat_tests}
-use Rattle.std.proofs.lemmas.Str.{chars-encodes, encodes-chars, scalars-chars}
+use Rattle.std.proofs.lemmas.Str.{chars-encodes, scalars-chars}
 use Rattle.std.specs.Char.{IsScalar}
 use Rattle.std.specs.Char.Escape.{encode_utf16}
 use Rattle.std.specs.List.{AllByRecursion, flat_map}
-use Rattle.std.specs.Str.{IsUtf8, all_scalars, chars, encode_utf8_all}
+use Rattle.std.specs.Str.{all_scalars}
 use Rattle.cm_text.specs.Fault.{IsIllFormed}
 use Rattle.cm_text.specs.Latin1.{spell_latin1}
 use Rattle.cm_text.specs.Text.{IsText, IsTextOfSize, IsTextUpTo}
 use Rattle.cm_text.specs.Utf16.{spell_utf16}
 use Rattle.cm_text.specs.Utf16Laws.{length_of_units}
-use Rattle.cm_text.specs.Utf8.{spell_utf8}
-use Rattle.cm_text.specs.Utf8Laws.{spell_utf8-encode}
 use Rattle.cm_text.specs.declared.fault.TextFault.{TextFault}
 use Rattle.cm_text.specs.declared.fault.TextFault.TheVariants as text_fault
 use Rattle.cm_abi_model.specs.Requests.{text_bytes}
@@ -22,16 +20,6 @@ use Rattle.cm_abi_model.specs.Taken.{MAX_CONTENT}
 use Rattle.cm_abi_model.specs.Texts.{Charset, spell, utf8, utf16, latin1}
 
 -- ---- a string is a text
-
-spelled : (cs : List ℕ) → encode_utf8_all cs ≡ flat_map spell_utf8 cs
-spelled [] = refl
-spelled (c ∷ cs) = ap (λ ys. ys ++ encode_utf8_all cs) (sym (spell_utf8-encode c)) ∙ ap (λ ys. spell_utf8 c ++ ys) (spelled cs)
-
-spelled_chars : (bytes : List ℕ) → IsUtf8 bytes → flat_map spell_utf8 (chars bytes) ≡ bytes
-spelled_chars bytes h = sym (spelled (chars bytes)) ∙ encodes-chars bytes h
-
-pub size_8 : (bytes : List ℕ) → IsUtf8 bytes → length bytes ≡ length (flat_map spell_utf8 (chars bytes))
-size_8 bytes h = ap length (sym (spelled_chars bytes h))
 
 pub size_1 : (cs : List ℕ) → length cs ≡ length (flat_map spell_latin1 cs)
 size_1 [] = refl

@@ -14,10 +14,6 @@ set_length [] i x = refl
 set_length (y ∷ m) zero x = refl
 set_length (y ∷ m) (suc i) x = ap suc (set_length m i x)
 
-pub poke_length : (xs : List Placed) (m : List ℕ) → length (poke xs m) ≡ length m
-poke_length [] m = refl
-poke_length (x ∷ xs) m = poke_length xs (slice_set m x.0 x.1) ∙ set_length m x.0 x.1
-
 pub number_done : (size i at rest : ℕ) (m total : List ℕ) → size ≤ i → poke (placed (at + i) (bytes_of (size - i) rest)) m ≡ total → m ≡ total
 unfolding bytes_of
 number_done size i at rest m total past so_far =

@@ -2,7 +2,6 @@ pub mod SeenLayouts
 pub mod WalkLemmas
 pub mod BytesLemmas
 pub mod NumberLemmas
-pub mod TextLemmas
 pub mod LayoutLaws
 pub mod FittingLaws
 pub mod PassedLaws

@@ -1,18 +1,15 @@
 -- What a type holds has its slots within those of the type.
-use Rattle.std.proofs.Common.{◌≡◌, ℕ, zero, suc, ◌+◌, ◌*◌, ◌≤◌, List, [], ◌∷◌, length, arith, length-append}
+use Rattle.std.proofs.Common.{ℕ, ◌+◌, ◌≤◌, List, [], ◌∷◌, length, arith, length-append}
 use Rattle.cm_types.specs.declared.core_value.CoreKind.{CoreKind}
 use Rattle.cm_types.specs.Types.{Ty, Fields, Cases, bool, signed, unsigned, char, string, list, fixed_list, fields, cases, flags, own, borrow, no_fields, field, no_cases, plain, carrying}
 use Rattle.cm_layout.specs.Alignment.{align_to}
-use Rattle.cm_layout.specs.Flattening.{copies, flat_of, flat_of_cases, flat_of_fields, join_slots}
+use Rattle.cm_layout.specs.Flattening.{flat_of, flat_of_cases, flat_of_fields, join_slots}
 use Rattle.cm_layout.specs.Laid.{Laid}
 use Rattle.cm_layout.specs.Shapes.{parts_at, parts_from, payloads_from, payloads_of, shape_of_type}
 use Rattle.cm_layout.specs.Sizes.{align_of, size_of}
 use Rattle.cm_abi_model.specs.FlatShows.{width_of}
 use Rattle.cm_abi_store.specs.FlatLowering.{ArePassedIn, IsPassedIn, PayloadsPassedIn}
-
-pub copies_length : (n : ℕ) (xs : List CoreKind) → length (copies n xs) ≡ n * length xs
-copies_length zero xs = omega arith
-copies_length (suc n) xs = let rest = copies_length n xs in omega (arith, length-append xs (copies n xs), rest)
+use Rattle.cm_layout.proofs.WidthLaws.{copies_long}
 
 pub joined : (xs ys : List CoreKind) → (length xs ≤ length (join_slots xs ys)) × (length ys ≤ length (join_slots xs ys))
 joined [] ys = (omega arith, omega arith)
@@ -28,7 +25,7 @@ module _ (laid : (t : Ty) → Laid (size_of t) (shape_of_type t)) where
     is_passed char = omega arith
     is_passed string = omega arith
     is_passed (list t) = (omega arith, laid t)
-    is_passed (fixed_list t n) = let size = copies_length n (flat_of t) in (omega (arith, size), is_passed t)
+    is_passed (fixed_list t n) = let size = copies_long n (flat_of t) in (omega (arith, size), is_passed t)
     is_passed (fields kind fs) = are_passed fs 0 0 (width_of (fields kind fs)) (omega arith)
     is_passed (cases kind cs) = (omega arith, payloads_passed cs (width_of (cases kind cs)) (omega arith))
     is_passed (flags ls) = omega arith

@@ -1,5 +1,5 @@
 -- The numbers that pass a value stand in slots one behind the other, so that each stays.
-use Rattle.std.proofs.Common.{◌≡◌, ℕ, zero, suc, ◌+◌, ◌*◌, ◌<◌, ◌≤◌, Bool, true, false, List, [], ◌∷◌, ◌++◌, length, refl, ap, ◌∙◌, arith, length-append}
+use Rattle.std.proofs.Common.{◌≡◌, ℕ, zero, suc, ◌+◌, ◌*◌, ◌<◌, ◌≤◌, Bool, true, false, List, [], ◌∷◌, ◌++◌, length, refl, ◌∙◌, arith, length-append}
 use Rattle.std.specs.Prelude.{slice_index, slice_set, if◌then◌else◌}
 use Rattle.cm_types.specs.declared.core_value.CoreKind.TheVariants as kind
 use Rattle.cm_types.specs.Types.{Ty, Fields, Cases, bool, signed, unsigned, char, string, list, fixed_list, fields, cases, flags, own, borrow, no_fields, field, no_cases, plain, carrying}
@@ -11,8 +11,10 @@ use Rattle.cm_abi_model.specs.Receives.{call_kinds, call_numbers, put, slots_of,
 use Rattle.cm_abi_model.specs.Requests.{is_spilled, tuple_of}
 use Rattle.cm_abi_model.specs.Stores.{Framed, Given, Holds, IsBeside, Placed, Storing, place_of, poke, store_each}
 use Rattle.cm_abi_model.specs.Views.{Way}
-use Rattle.cm_abi_store.proofs.BytesLemmas.{poke_length, set_length}
-use Rattle.cm_abi_store.proofs.PassedLaws.{copies_length, joined}
+use Rattle.cm_abi_store.proofs.BytesLemmas.{set_length}
+use Rattle.cm_abi_store.proofs.PassedLaws.{joined}
+use Rattle.cm_abi_model.proofs.StoredOnce.{stays, poke_length}
+use Rattle.cm_layout.proofs.WidthLaws.{copies_long}
 
 -- each stands behind the one before it, from one place on and before another
 abbrev Rises : ℕ → ℕ → List Placed → Type 0
@@ -48,7 +50,7 @@ mutual
   slots_rise g string (text cs) s k h typed = (omega arith, (omega arith, omega arith))
   slots_rise g (list t) (elements vs) s k h typed = (omega arith, (omega arith, omega arith))
   slots_rise g (fixed_list t n) (parts vs) s k h typed =
-      let end : s + count_of vs * width_of t ≤ s + width_of (fixed_list t n) = rw (typed.0, copies_length n (flat_of t)) (omega arith) in
+      let end : s + count_of vs * width_of t ≤ s + width_of (fixed_list t n) = rw (typed.0, copies_long n (flat_of t)) (omega arith) in
       upper s _ _ _ end (each_rises (slots_of g t) (HasType t) (width_of t) vs s k h (slots_rise g t) typed.1)
   slots_rise g (fields kind fs) (parts vs) s k h typed = fields_rise g fs vs s k h typed
   slots_rise g (cases kind cs) (bare i) s k h typed = (omega arith, omega arith)
@@ -85,17 +87,6 @@ set_same [] i x lt = absurd (omega (arith, lt))
 set_same (y ∷ m) zero x lt = refl
 set_same (y ∷ m) (suc i) x lt = set_same m i x (omega (arith, lt))
 
-pub set_other : (m : List ℕ) (i j x : ℕ) → (j ≡ i → ⊥) → slice_index (slice_set m i x) j ≡ slice_index m j
-set_other [] i j x no_same = refl
-set_other (y ∷ m) zero zero x no_same = absurd (no_same refl)
-set_other (y ∷ m) zero (suc j) x no_same = refl
-set_other (y ∷ m) (suc i) zero x no_same = refl
-set_other (y ∷ m) (suc i) (suc j) x no_same = set_other m i j x (λ e. no_same (ap suc e))
-
-beside_stays : (xs : List Placed) (m : List ℕ) (p : ℕ) → IsBeside p xs → slice_index (poke xs m) p ≡ slice_index m p
-beside_stays [] m p beside = refl
-beside_stays (x ∷ xs) m p beside = beside_stays xs (slice_set m x.0 x.1) p beside.1 ∙ set_other m x.0 p x.1 beside.0
-
 before_is_beside : (s e p : ℕ) (xs : List Placed) → p < s → Rises s e xs → IsBeside p xs
 before_is_beside s e p [] lt rises = tt
 before_is_beside s e p (x ∷ xs) lt rises =
@@ -110,7 +101,7 @@ holds s e [] m rises inside = tt
 holds s e (x ∷ xs) m rises inside =
     let end = rises_end (x.0 + 1) e xs rises.1 in
     let room : e ≤ length (slice_set m x.0 x.1) = rw (set_length m x.0 x.1) inside in (
-      beside_stays xs (slice_set m x.0 x.1) x.0 (before_is_beside (x.0 + 1) e x.0 xs (omega arith) rises.1) ∙ set_same m x.0 x.1 (omega (arith, end, inside)),
+      stays xs (slice_set m x.0 x.1) x.0 (before_is_beside (x.0 + 1) e x.0 xs (omega arith) rises.1) ∙ set_same m x.0 x.1 (omega (arith, end, inside)),
       holds (x.0 + 1) e xs (slice_set m x.0 x.1) rises.1 room,
     )
 
@@ -123,5 +114,5 @@ pub numbers_stay : (way : Way) (types : Fields) (g : Given) (v : Val) (slots : L
     → Holds (poke (call_numbers g way types v) slots) (call_numbers g way types v) × Framed slots (poke (call_numbers g way types v) slots) (call_numbers g way types v)
 numbers_stay way types g v slots typed room = (
   holds 0 _ (call_numbers g way types v) slots (call_rises g types v (is_spilled way types) typed) room,
-  record { length_stays = poke_length (call_numbers g way types v) slots; others_stay = λ at beside. beside_stays (call_numbers g way types v) slots at beside },
+  record { length_stays = poke_length (call_numbers g way types v) slots; others_stay = λ at beside. stays (call_numbers g way types v) slots at beside },
 )

@@ -1,27 +1,11 @@
 -- Emptying seats one after the other.
-use Rattle.std.proofs.Common.{◌≡◌, ◌≢◌, ℕ, zero, suc, ◌+◌, ◌<◌, ◌≤◌, Bool, true, false, List, [], ◌∷◌, length, Option, Some, None, refl, sym, ap, subst, ◌∙◌, arith, below_more}
+use Rattle.std.proofs.Common.{◌≡◌, ◌≢◌, ℕ, ◌+◌, ◌<◌, ◌≤◌, Bool, true, false, List, length, Option, Some, None, refl, sym, ap, subst, ◌∙◌, arith, below_more}
 use Rattle.std.specs.Prelude.{slice_get, slice_set, nat_lt}
 use borrow.Author.Tests.{ltb-true, ltb-false}
 use Rattle.std.proofs.lemmas.Option.{slice_get_past}
 use Rattle.std.proofs.Math.ListN.{length-set}
 use Rattle.cm_machine.specs.Player.{seat_after_close}
-
-get_set_same : {X : Type 0} (xs : List X) (i : ℕ) (x : X) → i < length xs → slice_get (slice_set xs i x) i ≡ Some x
-get_set_same [] i x lt = absurd (omega arith)
-get_set_same (y ∷ ys) zero x lt = refl
-get_set_same (y ∷ ys) (suc i) x lt = get_set_same ys i x (omega arith)
-
-get_set_other : {X : Type 0} (xs : List X) (i j : ℕ) (x : X) → j ≢ i → slice_get (slice_set xs i x) j ≡ slice_get xs j
-get_set_other [] i j x ne = refl
-get_set_other (y ∷ ys) zero zero x ne = absurd (ne refl)
-get_set_other (y ∷ ys) zero (suc j) x ne = refl
-get_set_other (y ∷ ys) (suc i) zero x ne = refl
-get_set_other (y ∷ ys) (suc i) (suc j) x ne = get_set_other ys i j x (λ e. ne (ap suc e))
-
-get_there : {X : Type 0} (xs : List X) (i : ℕ) → i < length xs → (x : X) × (slice_get xs i ≡ Some x)
-get_there [] i lt = absurd (omega arith)
-get_there (y ∷ ys) zero lt = (y, refl)
-get_there (y ∷ ys) (suc i) lt = get_there ys i (omega arith)
+use Rattle.cm_lemmas.proofs.Lists.{get_set_other, get_set_same, item_there}
 
 -- the seats after the seat at i was emptied, where that is due
 pub record EmptiedTo {G : Type 0} (f : ℕ → Bool) (old now : List (Option G)) (i : ℕ) : Type 0 where
@@ -30,7 +14,7 @@ pub record EmptiedTo {G : Type 0} (f : ℕ → Bool) (old now : List (Option G))
 
 empties_here : {G : Type 0} (now old : List (Option G)) (i : ℕ) → i < length now → slice_get now i ≡ slice_get old i → slice_get (slice_set now i None) i ≡ seat_after_close true (slice_get old i)
 empties_here now old i lt same =
-    let there = get_there now i lt in
+    let there = item_there now i lt in
     let was : slice_get old i ≡ Some there.0 = sym same ∙ there.1 in
     get_set_same now i None lt ∙ sym (ap (seat_after_close true) was)
 

@@ -105,14 +105,6 @@ frame_behind g fs n ne = ap (λ (b : Bool). if b then Some g else frame_at fs n)
 pub frame_top : (g : Frame) (fs : List Frame) → frame_at (g ∷ fs) (length fs) ≡ Some g
 frame_top g fs = ap (λ (b : Bool). if b then Some g else frame_at fs (length fs)) (eq-eqb (length fs) (length fs) refl)
 
--- a frame stands below the height of the stack
-pub frame_below : (fs : List Frame) (n : ℕ) (f : Frame) → frame_at fs n ≡ Some f → n < length fs
-frame_below [] n f is = absurd (none-some f is)
-frame_below (g ∷ fs) n f is = elim (cases_eq n (length fs)) [
-  | inl e ↦ omega (arith, e)
-  | inr ne ↦ let lower : n < length fs = frame_below fs n f (sym (frame_behind g fs n ne) ∙ is) in omega (arith, lower)
-]
-
 the_top : (f g : Frame) (fs : List Frame) (n : ℕ) → n ≡ length fs → frame_at (f ∷ fs) n ≡ Some g → f ≡ g
 the_top f g fs n e at =
     let same : Some f ≡ Some g = sym (frame_top f fs) ∙ ap (frame_at (f ∷ fs)) (sym e) ∙ at in

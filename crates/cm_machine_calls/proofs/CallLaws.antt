@@ -34,9 +34,10 @@ use Rattle.cm_machine_parts.specs.declared.state.State.{State as CodedState}
 use Rattle.cm_machine_calls.specs.Calling.{HasArguments}
 use Rattle.cm_machine_calls.specs.Going.{IsUnderWay, passage_now}
 use Rattle.cm_machine_calls.specs.Lifting.{IsLifted, StopsLift}
-use Rattle.cm_machine_calls.proofs.Lifted.{counted_call, lift_stops, no_fault, none_answered, sound_lifted}
+use Rattle.cm_machine_calls.proofs.Lifted.{counted_call, lift_stops, none_answered, sound_lifted}
 use Rattle.cm_machine_calls.proofs.Standing.{has_funcs, link_of, top_parts}
-use Rattle.cm_machine_calls.proofs.Tables.{handles_length}
+use Rattle.cm_machine_parts.proofs.Tables.{length_handles}
+use Rattle.cm_abi_model.proofs.AnsweringLaws.{no_fault}
 
 -- ---- the state
 
@@ -107,7 +108,7 @@ module _ (plan : Plan) (s new : CodedState) (i func : ℕ) (l : Link) (args : Li
     answered = none_answered (args_view (state_of s) i l) l params (arg_slots l args) v (passage_now new) scanned;
     fine = no_fault (length (memory_at new.memories l.instance)) (asked_for l params (passage_now new) v);
     memories = ap (λ (m : List (List ℕ)). length m) memories_are ∙ runs.valid.memories;
-    tables = sym (handles_length new.tables.items) ∙ ap (λ (t : List Handles). length t) tables_are ∙ length-set (state_of s).tables i after ∙ runs.valid.tables;
+    tables = sym (length_handles new.tables.items) ∙ ap (λ (t : List Handles). length t) tables_are ∙ length-set (state_of s).tables i after ∙ runs.valid.tables;
     sound = sound_lifted (state_of s).tables (state_of new).tables i after tables_are runs.valid.sound sound;
     counted =
         subst (λ (t : List Handles). AreBorrowsCounted new.stack.borrows new.stack.frames t) (sym tables_are)

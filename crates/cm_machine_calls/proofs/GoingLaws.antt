@@ -1,16 +1,11 @@
 -- What holds of a link, of its sides and of what goes over it.
-use Rattle.std.proofs.Common.{◌≡◌, ◌≢◌, ℕ, ◌<◌, ◌≤◌, Bool, true, false, List, [], ◌∷◌, length, None, refl, sym, ap, subst, ◌∙◌, arith}
-use Rattle.std.specs.Prelude.{if◌then◌else◌, nat_lt, option_map, slice_get, slice_set}
-use Rattle.std.proofs.lemmas.Bool.{ltb-false}
+use Rattle.std.proofs.Common.{◌≡◌, ◌≢◌, ℕ, ◌<◌, ◌≤◌, true, List, length, None, refl, sym, ap, subst, ◌∙◌, arith}
+use Rattle.std.specs.Prelude.{option_map, slice_get, slice_set}
 use Rattle.cm_types.specs.declared.core_value.CoreKind.{CoreKind}
-use Rattle.cm_types.specs.declared.core_value.CoreKind.TheVariants as kind
 use Rattle.cm_types.specs.declared.core_value.CoreValue.{CoreValue}
-use Rattle.cm_types.specs.declared.limits.TheConstants.{MAX_FLAT_PARAMS}
 use Rattle.cm_types.specs.Spellable.{are_spellable}
-use Rattle.cm_types.specs.Types.{Fields}
 use Rattle.cm_types.specs.Values.{Val}
 use Rattle.cm_handles.specs.Handles.{Handles}
-use Rattle.cm_layout.specs.Flattening.{flat_of_fields}
 use Rattle.cm_layout.specs.Layouts.{layout_of}
 use Rattle.cm_layout.specs.Shapes.{layout_of_fields_at}
 use Rattle.cm_abi_lift.specs.declared.passed.Passed.{Passed}
@@ -19,9 +14,9 @@ use Rattle.cm_abi_model.specs.Answering.{first_fault, places_of}
 use Rattle.cm_abi_model.specs.Denotes.{Denotes}
 use Rattle.cm_abi_model.specs.Giving.{after_given, numbers_given}
 use Rattle.cm_abi_model.specs.Receives.{call_kinds}
-use Rattle.cm_abi_model.specs.Requests.{CanStore, call_parts, is_spilled}
+use Rattle.cm_abi_model.specs.Requests.{CanStore, call_parts}
 use Rattle.cm_abi_model.specs.Telling.{TellAll}
-use Rattle.cm_abi_model.specs.Views.{Way, flat_limit, params, results}
+use Rattle.cm_abi_model.specs.Views.{Way, params, results}
 use Rattle.cm_abi_model.specs.Ways.{way_of}
 use Rattle.cm_abi_model.specs.declared.encoding.StringEncoding.{StringEncoding}
 use Rattle.cm_abi_model.specs.declared.receiver.Receiver.{Receiver}
@@ -67,14 +62,6 @@ receiver_place params place l call = refl
 receiver_place results place l call = refl
 
 -- ---- kinds
-
-few_by : (b : Bool) (limit : ℕ) (flat : List CoreKind) → nat_lt limit (length flat) ≡ b → limit ≤ MAX_FLAT_PARAMS → length (if b then kind.I32 ∷ [] else flat) ≤ MAX_FLAT_PARAMS
-few_by true limit flat is most = omega arith
-few_by false limit flat is most = omega (arith, ltb-false limit (length flat) is, most)
-
-pub few_kinds : (way : Way) (types : Fields) → length (call_kinds way types) ≤ MAX_FLAT_PARAMS
-few_kinds params types = few_by (is_spilled params types) (flat_limit params) (flat_of_fields types) refl (omega arith)
-few_kinds results types = few_by (is_spilled results types) (flat_limit results) (flat_of_fields types) refl (omega arith)
 
 -- ---- handing over
 

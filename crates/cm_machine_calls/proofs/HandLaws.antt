@@ -27,7 +27,7 @@ use Rattle.cm_machine_calls.specs.Handing.{IsHandedOver}
 use Rattle.cm_machine_calls.proofs.Borrows.{AddCounts, AddsFine, none_counted}
 use Rattle.cm_machine_calls.proofs.GivingLaws.{IsMine, counted_then, few_then, lent_given}
 use Rattle.cm_machine_calls.proofs.GoingLaws.{receiver_place, receiver_there}
-use Rattle.cm_machine_calls.proofs.Tables.{handles_length}
+use Rattle.cm_machine_parts.proofs.Tables.{length_handles}
 
 module _ (counts : AddCounts) (fine : AddsFine) (plan : Plan) (s : CodedState) (l : Link) (way : Way) (call : Call) (v : Val) (answers : List ℕ) (giver : ℕ) (to : Receiver)
     (new : State) (values : List CoreValue) (h : CanHand plan s l way call v answers giver to) (handed : IsHandedOver (state_of s) new l way to (passage_now s) v answers values) where
@@ -35,7 +35,7 @@ module _ (counts : AddCounts) (fine : AddsFine) (plan : Plan) (s : CodedState) (
   place_is = ap (λ (r : Receiver). r.call) h.to_is ∙ receiver_place way (length h.on.under.below) l call
 
   inside : to.instance < length (handles_in s.tables.items)
-  inside = omega (arith, receiver_there plan l way call (length h.on.under.below) h.on.under.link h.on.under.caller, ap (λ (r : Receiver). r.instance) h.to_is, h.on.under.tables, handles_length s.tables.items)
+  inside = omega (arith, receiver_there plan l way call (length h.on.under.below) h.on.under.link h.on.under.caller, ap (λ (r : Receiver). r.instance) h.to_is, h.on.under.tables, length_handles s.tables.items)
 
   abbrev top : Frame
   top = record { instance = l.instance; purpose = purpose.Call call }

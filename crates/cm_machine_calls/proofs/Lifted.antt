@@ -9,12 +9,9 @@ use Rattle.cm_types.specs.Values.{Val}
 use Rattle.cm_handles.specs.Borrows.{borrows_of}
 use Rattle.cm_handles.specs.Handles.{Handles, IsSoundHandles, handle_at, no_handles, with_lends}
 use Rattle.cm_handles.specs.declared.handle.Handle.{Handle}
-use Rattle.cm_abi_model.specs.Answering.{first_fault}
 use Rattle.cm_abi_model.specs.Handed.{IsHanded, times}
-use Rattle.cm_abi_model.specs.Receives.{HandleLeaf, borrowed_leaf, owned_leaf}
-use Rattle.cm_abi_model.specs.Taken.{CanGo, Met, content, lent, lent_of, taken, taken_of, text_content}
+use Rattle.cm_abi_model.specs.Taken.{CanGo, Met, lent_of, taken_of}
 use Rattle.cm_abi_model.specs.Views.{View, Way}
-use Rattle.cm_abi_model.specs.declared.request.Request.{Request}
 use Rattle.cm_machine_model.specs.declared.event.Event.{Event}
 use Rattle.cm_machine_model.specs.declared.event.Event.TheVariants as event
 use Rattle.cm_machine_model.specs.declared.event.Trap.{Trap}
@@ -24,17 +21,15 @@ use Rattle.cm_machine_model.specs.declared.frame.Lend.{Lend}
 use Rattle.cm_machine_model.specs.Owning.{count_lends}
 use Rattle.cm_machine_model.specs.Passages.{HasAnswers, IsScanned, asked_for}
 use Rattle.cm_machine_model.specs.Plan.{Link}
-use Rattle.cm_machine_model.specs.Plans.{NoneBorrowed}
 use Rattle.cm_machine_model.specs.State.{Passage, State, after_trap, table_at}
 use Rattle.cm_machine_model.specs.Step.{Lifts, trap_of}
-use Rattle.cm_machine_valid.specs.Taking.{AreThere}
 use Rattle.cm_machine_parts.specs.Kept.{AreBorrowsCounted}
 use Rattle.cm_machine_parts.specs.Lends.{AreLentAtLeast, lends_at}
 use Rattle.cm_machine_calls.specs.Lifting.{StopsLift}
 use Rattle.cm_machine_calls.proofs.Borrows.{counted_over, counted_pushed, counted_turned}
 use Rattle.cm_machine_calls.proofs.Pairs.{at_other, at_same}
 use Rattle.cm_machine_calls.proofs.Rows.{traps_here}
-use Rattle.cm_machine_calls.proofs.Scans.{none_placed}
+use Rattle.cm_abi_model.proofs.AnsweringLaws.{none_placed}
 
 -- ---- a lift that stops
 
@@ -44,10 +39,6 @@ lift_stops s new w l way xs row t (inl x) same = inl (x.0, x.1, traps_here s new
 lift_stops s new w l way xs row t (inr x) same = inr (inl (x.0, traps_here s new t trap.EngineMemory same x.1))
 
 -- ---- nothing is answered yet
-
-pub no_fault : (n : ℕ) (rs : List Request) → first_fault n rs [] ≡ None
-no_fault n [] = refl
-no_fault n (r ∷ rs) = refl
 
 pub none_answered : (w : View) (l : Link) (way : Way) (xs : List CoreValue) (v : Val) (p : Passage) → IsScanned w l way xs v p → HasAnswers (asked_for l way p v) [] p
 none_answered w l way xs v p scanned = record {
@@ -133,15 +124,3 @@ lent_lifted ls ts i new most ms there go handed few j index = elim (cases_eq j i
       )
   | inr ne ↦ omega (arith, few j index, ap (λ (x : Handles). lends_at (handle_at x index)) (at_other ts i j new no_handles ne))
 ]
-
--- a value that borrows nothing is met with no handle to be lent
-pub nothing_lent : (t : Handles) (ms : List Met) (ls : List HandleLeaf) → AreThere t ms ls → NoneBorrowed ls → lent_of ms ≡ []
-nothing_lent t [] ls there none = refl
-nothing_lent t (text_content tags n ∷ ms) ls there none = nothing_lent t ms ls there none
-nothing_lent t (content n ∷ ms) ls there none = nothing_lent t ms ls there none
-nothing_lent t (taken i ∷ ms) [] there none = absurd there
-nothing_lent t (taken i ∷ ms) (owned_leaf v ∷ ls) there none = nothing_lent t ms ls there.1 none
-nothing_lent t (taken i ∷ ms) (borrowed_leaf v ∷ ls) there none = absurd there
-nothing_lent t (lent i ∷ ms) [] there none = absurd there
-nothing_lent t (lent i ∷ ms) (owned_leaf v ∷ ls) there none = absurd there
-nothing_lent t (lent i ∷ ms) (borrowed_leaf v ∷ ls) there none = absurd none

@@ -1,14 +1,8 @@
 -- Two members of a list at once: one is taken out, the other is read, and the first is put back.
-use Rattle.std.proofs.Common.{◌≡◌, ◌≢◌, ℕ, zero, suc, ◌<◌, List, [], ◌∷◌, length, refl, sym, ap, ◌∙◌}
+use Rattle.std.proofs.Common.{◌≡◌, ◌≢◌, ℕ, ◌<◌, List, length, sym, ap, ◌∙◌}
 use Rattle.std.specs.Prelude.{slice_get, slice_set, unwrap_or}
 use Rattle.std.proofs.lemmas.List.{set-get_or, get_or-set_other, get_or-set_same}
 use Rattle.std.proofs.lemmas.Option.{unwrap_or-slice_get}
-
--- what is put twice at one place is what is put last
-pub set_again : {X : Type 0} (xs : List X) (i : ℕ) (x y : X) → slice_set (slice_set xs i x) i y ≡ slice_set xs i y
-set_again [] i x y = refl
-set_again (z ∷ zs) zero x y = refl
-set_again (z ∷ zs) (suc i) x y = ap (λ l. z ∷ l) (set_again zs i x y)
 
 -- at another place stands what stood there
 pub at_other : {X : Type 0} (xs : List X) (i j : ℕ) (x d : X) → j ≢ i → unwrap_or (slice_get (slice_set xs i x) j) d ≡ unwrap_or (slice_get xs j) d

@@ -50,10 +50,11 @@ use Rattle.cm_machine_calls.specs.Calling.{AnswersAt, HasResult, in_results}
 use Rattle.cm_machine_calls.specs.Going.{IsUnderWay, passage_now, phase_of}
 use Rattle.cm_machine_calls.specs.Lifting.{StopsLift}
 use Rattle.cm_machine_calls.proofs.HandLaws.{can_end}
-use Rattle.cm_machine_calls.proofs.Lifted.{counted_back, lent_lifted, lift_stops, no_fault, none_answered, sound_lifted}
+use Rattle.cm_machine_calls.proofs.Lifted.{counted_back, lent_lifted, lift_stops, none_answered, sound_lifted}
 use Rattle.cm_machine_calls.proofs.Rows.{traps_here}
 use Rattle.cm_machine_calls.proofs.Standing.{TopCall, has_funcs, is_passing, link_of, passes_at, top_call, top_parts}
-use Rattle.cm_machine_calls.proofs.Tables.{handles_length}
+use Rattle.cm_machine_parts.proofs.Tables.{length_handles}
+use Rattle.cm_abi_model.proofs.AnsweringLaws.{no_fault}
 
 -- ---- the phase of the call counts nowhere from there on
 
@@ -165,7 +166,7 @@ module _ (fine : StayFine) (plan : Plan) (s new : CodedState) (l : Link) (way : 
     answered = subst (λ (rs : List Request). HasAnswers rs (answers ++ at ∷ []) (passage_now new)) (sym asked_same) keeps.has;
     fine = fine_same;
     memories = ap (λ (m : List (List ℕ)). length m) memories_are ∙ under.memories;
-    tables = sym (handles_length new.tables.items) ∙ ap (λ (t : List Handles). length t) tables_are ∙ handles_length s.tables.items ∙ under.tables;
+    tables = sym (length_handles new.tables.items) ∙ ap (λ (t : List Handles). length t) tables_are ∙ length_handles s.tables.items ∙ under.tables;
     sound = λ i. subst (λ (t : List Handles). IsSoundHandles (table_at t i)) (sym tables_are) (under.sound i);
     counted =
         subst (λ x. AreBorrowsCounted x.borrows x.frames (state_of new).tables) (sym stack)
@@ -239,7 +240,7 @@ module _ (plan : Plan) (s : CodedState) (l : Link) (way : Way) (call : Call) (to
           answered = y.answered;
           fine = y.fine;
           memories = runs.valid.memories;
-          tables = sym (handles_length s.tables.items) ∙ runs.valid.tables;
+          tables = sym (length_handles s.tables.items) ∙ runs.valid.tables;
           sound = runs.valid.sound;
           counted = runs.kept.counted;
           stands = runs.valid.stack;
@@ -314,7 +315,7 @@ module _ (plan : Plan) (s new : CodedState) (l : Link) (call : Call) (values : L
     answered = none_answered (result_view (state_of s) l) l results values v (passage_now new) scanned;
     fine = no_fault (length (memory_at new.memories call.caller)) (asked_for l results (passage_now new) v);
     memories = ap (λ (m : List (List ℕ)). length m) memories_back ∙ runs.valid.memories;
-    tables = sym (handles_length new.tables.items) ∙ ap (λ (t : List Handles). length t) tables_back ∙ length-set (state_of s).tables l.instance after ∙ runs.valid.tables;
+    tables = sym (length_handles new.tables.items) ∙ ap (λ (t : List Handles). length t) tables_back ∙ length-set (state_of s).tables l.instance after ∙ runs.valid.tables;
     sound = sound_lifted (state_of s).tables (state_of new).tables l.instance after tables_back runs.valid.sound sound;
     counted =
         subst (λ (t : List Handles). AreBorrowsCounted new.stack.borrows new.stack.frames t) (sym tables_back)

@@ -1,11 +1,10 @@
 -- What a scan promises is what the rules say of a lift.
-use Rattle.std.proofs.Common.{◌≡◌, ℕ, List, [], ◌∷◌, Some, refl, sym, ap, ◌∙◌}
+use Rattle.std.proofs.Common.{◌≡◌, ℕ, List, Some, refl, sym, ap, ◌∙◌}
 use Rattle.std.specs.Prelude.{slice_set}
 use Rattle.cm_types.specs.declared.core_value.CoreValue.{CoreValue}
 use Rattle.cm_types.specs.Values.{Val}
 use Rattle.cm_handles.specs.Handles.{Handles}
 use Rattle.cm_abi_model.specs.Answered.{all_requests}
-use Rattle.cm_abi_model.specs.Answering.{places_of}
 use Rattle.cm_abi_model.specs.CallPlaces.{call_places}
 use Rattle.cm_abi_model.specs.HandleLeaves.{owned_in}
 use Rattle.cm_abi_model.specs.Requests.{requests}
@@ -13,7 +12,6 @@ use Rattle.cm_abi_model.specs.Scanned.{Scanned, ScansCall}
 use Rattle.cm_abi_model.specs.Taken.{Met, after_met, met, tags_of as tags_met}
 use Rattle.cm_abi_model.specs.declared.encoding.StringEncoding.{StringEncoding}
 use Rattle.cm_abi_model.specs.Views.{View, Way}
-use Rattle.cm_abi_model.specs.declared.request.Request.{Request}
 use Rattle.cm_machine_model.specs.declared.frame.Place.{Place}
 use Rattle.cm_machine_model.specs.declared.frame.Place.TheVariants as places
 use Rattle.cm_machine_model.specs.Passages.{Carries, IsScanned}
@@ -22,11 +20,7 @@ use Rattle.cm_machine_model.specs.State.{Passage, State, table_at, with_places}
 use Rattle.cm_machine_model.specs.Step.{after_lift}
 use Rattle.cm_machine_calls.specs.Lifting.{IsSeen, passage_in}
 use Rattle.cm_machine_calls.proofs.HandingLaws.{RecordsAsk, all_are}
-
--- nothing stands where nothing is answered
-pub none_placed : (rs : List Request) → places_of rs [] ≡ []
-none_placed [] = refl
-none_placed (r ∷ rs) = refl
+use Rattle.cm_abi_model.proofs.AnsweringLaws.{none_placed}
 
 pub carried_is : (w : View) (l : Link) (way : Way) (slots : List CoreValue) (v : Val) (table : Handles) (s : Scanned) → w.encoding ≡ (giver_side l way).encoding
     → ScansCall w (receiver_side l way).encoding way (types_of l way) slots v table s → Carries w.memory l way (passage_in slots s) v

@@ -22,7 +22,7 @@ use Rattle.cm_machine_model.specs.Stack.{below_top, top_of}
 use Rattle.cm_machine_model.specs.State.{Passage, State, table_at}
 use Rattle.cm_machine_model.specs.Step.{MayLeave, MayLeaveIn, arg_slots}
 use Rattle.cm_machine_model.specs.Valid.{IsStack, PassesAtTop, PassesFor, PassesIn, StandsOn}
-use Rattle.cm_machine_calls.proofs.GoingLaws.{few_kinds}
+use Rattle.cm_abi_model.proofs.ReceivesLaws.{few_kinds}
 
 -- ---- the plan
 
@@ -119,9 +119,6 @@ top_call plan l call (f ∷ fs) top stack is is_call reaches =
       stands = ((l, reaches, refl), x.1);
       below_stands = stack.2;
     }
-
-pub some_stand : (fs : List Frame) (top : Frame) → top_of fs ≡ Some top → 0 < length fs
-some_stand fs top is = omega (arith, ap (λ (x : List Frame). length x) (top_parts fs top is))
 
 pub top_high : (fs : List Frame) (top : Frame) → top_of fs ≡ Some top → length fs ≡ suc (length (below_top fs))
 top_high fs top is = ap (λ (x : List Frame). length x) (top_parts fs top is)

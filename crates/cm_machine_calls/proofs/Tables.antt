@@ -1,5 +1,5 @@
 -- The handle tables of a running set, as the rules see them.
-use Rattle.std.proofs.Common.{◌≡◌, ℕ, zero, suc, ◌<◌, List, [], ◌∷◌, length, get_or, Option, refl, sym, ap, ◌∙◌, arith}
+use Rattle.std.proofs.Common.{◌≡◌, ℕ, List, Option, refl, sym, ap, ◌∙◌}
 use Rattle.std.specs.Prelude.{slice_set, if◌then◌else◌, Bool, false, Some, None}
 use Rattle.cm_handles.specs.Handles.{Handles, TableState, no_handles}
 use Rattle.cm_abi_model.specs.Scanned.{Scanned}
@@ -9,20 +9,7 @@ use Rattle.cm_machine_parts.specs.declared.state.State.{State as CodedState}
 use Rattle.cm_machine_parts.specs.declared.passing.Passing.{Passing}
 use Rattle.cm_machine_calls.specs.Lifting.{passage_in}
 use Rattle.cm_machine_calls.proofs.Pairs.{set_back}
-
-pub handles_at : (ts : List TableState) (i : ℕ) (t : TableState) → i < length ts → t ≡ get_or ts i t → table_at (handles_in ts) i ≡ t.handles
-handles_at [] i t lt is = absurd (omega (arith, lt))
-handles_at (x ∷ xs) zero t lt is = ap (λ (y : TableState). y.handles) (sym is)
-handles_at (x ∷ xs) (suc i) t lt is = handles_at xs i t (omega (arith, lt)) is
-
-pub set_handles : (ts : List TableState) (i : ℕ) (t : TableState) → handles_in (slice_set ts i t) ≡ slice_set (handles_in ts) i t.handles
-set_handles [] i t = refl
-set_handles (x ∷ xs) zero t = refl
-set_handles (x ∷ xs) (suc i) t = ap (λ (l : List Handles). x.handles ∷ l) (set_handles xs i t)
-
-pub handles_length : (ts : List TableState) → length (handles_in ts) ≡ length ts
-handles_length [] = refl
-handles_length (x ∷ xs) = ap suc (handles_length xs)
+use Rattle.cm_machine_parts.proofs.Tables.{handles_set}
 
 same_state : (s : State) (ms : List (List ℕ)) (ts : List Handles) (o : Option Passage) → ms ≡ s.memories → ts ≡ s.tables → o ≡ s.passage
     → ◌≡◌ {A = State} (record s { memories = ms; tables = ts; passage = o }) s
@@ -40,7 +27,7 @@ pub none_lifted : (s : CodedState) (i : ℕ) (t : TableState) (k : Scanned) → 
     → ◌≡◌ {A = State} (record (state_of s) { tables = handles_in (slice_set s.tables.items i t); passage = passage_of (record s.passing { scan = k }) }) (state_of s)
 none_lifted s i t k handles idle none =
     same_state (state_of s) s.memories (handles_in (slice_set s.tables.items i t)) (passage_of (record s.passing { scan = k })) refl
-    (set_handles s.tables.items i t ∙ ap (slice_set (handles_in s.tables.items) i) handles ∙ set_back (handles_in s.tables.items) i no_handles)
+    (handles_set s.tables.items i t ∙ ap (slice_set (handles_in s.tables.items) i) handles ∙ set_back (handles_in s.tables.items) i no_handles)
     (none_when (record s.passing { scan = k }) none ∙ sym (none_when s.passing idle))
 
 -- the state is as it was where memories and handles are, and numbers alone may have changed of what
@@ -50,5 +37,5 @@ pub unchanged_by : (s : CodedState) (ms : List (List ℕ)) (i : ℕ) (t : TableS
     → ◌≡◌ {A = State} (record (state_of s) { memories = ms; tables = handles_in (slice_set s.tables.items i t); passage = passage_of (record s.passing { scan = k }) }) (state_of s)
 unchanged_by s ms i t k ns memories handles kept =
     same_state (state_of s) ms (handles_in (slice_set s.tables.items i t)) (passage_of (record s.passing { scan = k })) memories
-    (set_handles s.tables.items i t ∙ ap (slice_set (handles_in s.tables.items) i) handles ∙ set_back (handles_in s.tables.items) i no_handles)
+    (handles_set s.tables.items i t ∙ ap (slice_set (handles_in s.tables.items) i) handles ∙ set_back (handles_in s.tables.items) i no_handles)
     (ap (λ (x : Scanned). passage_of (record s.passing { scan = x })) kept)

@@ -1,7 +1,7 @@
 -- The rows of an allocator's answer, judged by the causes of their traps.
-use Rattle.std.proofs.Common.{◌≡◌, ℕ, zero, suc, ◌+◌, ◌/◌, ◌%◌, ◌<◌, ◌≤◌, ◌⊎◌, inl, inr, Bool, true, false, not, List, [], ◌∷◌, ◌++◌, length, map, Option, Some, None, refl, sym, ap, subst, ◌∙◌, arith, if◌then◌else◌}
+use Rattle.std.proofs.Common.{◌≡◌, ℕ, zero, suc, ◌+◌, ◌%◌, ◌<◌, ◌≤◌, ◌⊎◌, inl, inr, Bool, true, false, not, List, [], ◌∷◌, ◌++◌, length, map, Option, Some, None, refl, sym, ap, subst, ◌∙◌, arith, if◌then◌else◌}
 use Rattle.std.specs.Prelude.{slice_get, nat_lt, ◌==◌}
-use Rattle.std.proofs.Math.Nat.{div-add-mod, mul-mod_left, mul_comm, lt_of_not-le}
+use Rattle.std.proofs.Math.Nat.{lt_of_not-le}
 use Rattle.std.proofs.lemmas.Option.{none-some, same_Some}
 use Rattle.cm_types.specs.declared.core_value.CoreValue.{CoreValue}
 use Rattle.cm_types.specs.Values.{Val}
@@ -34,6 +34,11 @@ use Rattle.cm_machine_model.specs.State.{Passage, State, table_at}
 use Rattle.cm_machine_model.specs.Step.{Answers, Finishes, GoesOn, GoesOnBy, top_place, IsReceived, UnlessWrong, flat_result, giver_of, receiver_of, trap_of}
 use Rattle.cm_machine_laws.proofs.Judging.{Causing, Judged, check, here, memory, next, passes}
 use Rattle.cm_machine_laws.proofs.LowerRows.{asks_not, enters_not}
+use Rattle.cm_abi_model.proofs.TextsLaws.{aligned as aligned_if, multiple}
+use Rattle.cm_lemmas.proofs.Bools.{true_not_false}
+use Rattle.cm_lemmas.proofs.Numbers.{less_of}
+use Rattle.cm_lemmas.proofs.Lists.{length_push}
+use Rattle.cm_abi_model.proofs.FaultLaws.{choice}
 
 -- ---- an answer that will not do
 
@@ -43,33 +48,8 @@ tests_fault false b f e = inl (sym (same_Some fault.Misaligned f e), refl)
 tests_fault true true f e = inr (sym (same_Some fault.PointerBounds f e), refl, refl)
 tests_fault true false f e = absurd (none-some f e)
 
-tests_fine : (a b : Bool) → (if not a then Some fault.Misaligned else (if b then Some fault.PointerBounds else None)) ≡ None → (a ≡ true) × (b ≡ false)
-tests_fine false b e = absurd (none-some fault.Misaligned (sym e))
-tests_fine true true e = absurd (none-some fault.PointerBounds (sym e))
-tests_fine true false e = (refl, refl)
-
-eq_true : (a b : ℕ) → a ≡ b → (a == b) ≡ true
-eq_true a b e = grind (arith, e)
-
-eq_nat : (a b : ℕ) → (a == b) ≡ true → a ≡ b
-eq_nat a b e = grind (arith, e)
-
-lt_nat : (a b : ℕ) → nat_lt a b ≡ true → a < b
-lt_nat a b e = grind (arith, e)
-
 not_lt_nat : (a b : ℕ) → nat_lt a b ≡ false → a < b → ⊥
 not_lt_nat a b e lt = grind (arith, e, lt)
-
-aligned_if : (align at : ℕ) → (at % align == 0) ≡ true → IsAligned align at
-aligned_if align at e =
-    let z : at % align ≡ 0 = eq_nat (at % align) 0 e in
-    (at / align, omega (arith, div-add-mod at align, mul_comm align (at / align)))
-
-multiple : (align at : ℕ) → IsAligned align at → (at % align == 0) ≡ true
-multiple align at is = ap (λ (n : ℕ). n % align == 0) is.1 ∙ ap (λ (n : ℕ). n == 0) (mul-mod_left is.0 align)
-
-differ : true ≡ false → ⊥
-differ e = cc (e)
 
 pub data FaultIs (n : ℕ) (r : Request) (at : ℕ) : AbiFault → Type 0 where
   misaligned : (IsAligned r.align at → ⊥) → FaultIs n r at fault.Misaligned
@@ -78,8 +58,8 @@ pub data FaultIs (n : ℕ) (r : Request) (at : ℕ) : AbiFault → Type 0 where
 pub fault_is : (n : ℕ) (r : Request) (at : ℕ) (f : AbiFault) → answer_fault n r at ≡ Some f → FaultIs n r at f
 fault_is n r at f e = by_test (tests_fault (at % r.align == 0) (nat_lt n (at + r.size)) f e) where
   by_test : ((f ≡ fault.Misaligned) × ((at % r.align == 0) ≡ false)) ⊎ ((f ≡ fault.PointerBounds) × ((at % r.align == 0) ≡ true) × (nat_lt n (at + r.size) ≡ true)) → FaultIs n r at f
-  by_test (inl x) = subst (FaultIs n r at) (sym x.0) (misaligned (λ is. differ (sym (multiple r.align at is) ∙ x.1)))
-  by_test (inr x) = subst (FaultIs n r at) (sym x.0) (beyond (aligned_if r.align at x.1) (lt_nat n (at + r.size) x.2))
+  by_test (inl x) = subst (FaultIs n r at) (sym x.0) (misaligned (λ is. true_not_false (sym (multiple r.align at is) ∙ x.1)))
+  by_test (inr x) = subst (FaultIs n r at) (sym x.0) (beyond (aligned_if r.align at x.1) (less_of n (at + r.size) x.2))
 
 pub record IsFine (n : ℕ) (r : Request) (at : ℕ) : Type 0 where
   pub aligned : IsAligned r.align at
@@ -87,7 +67,7 @@ pub record IsFine (n : ℕ) (r : Request) (at : ℕ) : Type 0 where
 
 pub fine_is : (n : ℕ) (r : Request) (at : ℕ) → answer_fault n r at ≡ None → IsFine n r at
 fine_is n r at e =
-    let x = tests_fine (at % r.align == 0) (nat_lt n (at + r.size)) e in
+    let x = choice (at % r.align == 0) (nat_lt n (at + r.size)) e in
     record { aligned = aligned_if r.align at x.0; inside = not_lt_nat n (at + r.size) x.1 }
 
 -- ---- regions
@@ -168,10 +148,6 @@ received_not results place l call p slots s e new x = finishes_not l.post_return
 
 -- ---- one more answer
 
-size_one : (xs : List ℕ) (a : ℕ) → length (xs ++ a ∷ []) ≡ suc (length xs)
-size_one [] a = refl
-size_one (x ∷ xs) a = ap suc (size_one xs a)
-
 past : (rs : List Request) (n : ℕ) → slice_get rs n ≡ None → length rs ≤ n
 past [] n e = omega arith
 past (r ∷ rs) zero e = absurd (none-some r (sym e))
@@ -196,7 +172,7 @@ pub record Turned (rs : List Request) (mine answers : List ℕ) (at : ℕ) (l : 
 
 regions_are : (rs : List Request) (mine answers : List ℕ) (at : ℕ) → length answers ≡ length mine → places_of rs (answers ++ at ∷ []) ≡ places_of rs (mine ++ at ∷ [])
     → regions_of rs (answers ++ at ∷ []) ≡ regions_of rs (mine ++ at ∷ [])
-regions_are rs mine answers at count places = one_region rs (answers ++ at ∷ []) (mine ++ at ∷ []) (size_one answers at ∙ (ap suc count ∙ sym (size_one mine at))) places
+regions_are rs mine answers at count places = one_region rs (answers ++ at ∷ []) (mine ++ at ∷ []) (length_push answers at ∙ (ap suc count ∙ sym (length_push mine at))) places
 
 lt_sides : {a b : ℕ} → (a ≤ b → ⊥) → b < a
 lt_sides {a} {b} f = lt_of_not-le f
@@ -218,7 +194,7 @@ goes_on_judged s st l way call place v q rs mine answers at mem leaves values ca
       inside = within rs (length (answers ++ at ∷ [])) r (subst (λ (xs : List Request). slice_get xs (length (answers ++ at ∷ [])) ≡ Some r) turned.requests_are is)
 
       not_all : IsAll rs mine at → ⊥
-      not_all all = both (size_one answers at) (size_one mine at) turned.count inside all where
+      not_all all = both (length_push answers at) (length_push mine at) turned.count inside all where
         both : {a b c d n : ℕ} → a ≡ suc c → b ≡ suc d → c ≡ d → a < n → b ≡ n → ⊥
         both {a} {b} {c} {d} {n} x y z lt f = absurd (omega (arith, x, y, z, lt, f))
 goes_on_judged s st l way call place v q rs mine answers at mem leaves values cause shape causes turned tables None is e new row =
@@ -230,7 +206,7 @@ goes_on_judged s st l way call place v q rs mine answers at mem leaves values ca
       outside = past rs (length (answers ++ at ∷ [])) (subst (λ (xs : List Request). slice_get xs (length (answers ++ at ∷ [])) ≡ None) turned.requests_are is)
 
       all : IsAll rs mine at
-      all = both (size_one answers at) (size_one mine at) turned.count outside turned.before where
+      all = both (length_push answers at) (length_push mine at) turned.count outside turned.before where
         both : {a b c d n : ℕ} → a ≡ suc c → b ≡ suc d → c ≡ d → n ≤ a → d < n → b ≡ n
         both {a} {b} {c} {d} {n} x y z le lt = omega (arith, x, y, z, le, lt)
 

@@ -43,6 +43,7 @@ use Rattle.cm_machine_laws.proofs.AnswerRows.{FaultIs, IsFine, beyond, fault_is,
 use Rattle.cm_machine_laws.proofs.Judging.{Causing, Judged, check, check_behind, here_behind, memory, next_behind, passes, skip}
 use Rattle.cm_machine_laws.proofs.Lifting.{Laws, Only, leaves_want, lifts_judged, parts_want}
 use Rattle.cm_machine_laws.proofs.LowerRows.{asks_not, other_table}
+use Rattle.cm_lemmas.proofs.Bools.{true_is_not_false}
 
 -- where the tuple goes by memory, its bytes are asked for first
 abbrev pub TupleFirst : Type 0
@@ -204,11 +205,6 @@ skip_rest laws s x values v returned e j =
     (plain_none laws s x values v returned trap.BadChar (λ c. c), (plain_none laws s x values v returned trap.BadCase (λ c. c), (plain_none laws s x values v returned trap.TooLarge (λ c. c), (plain_none laws s x values v returned trap.BadText (λ c. c), (plain_none laws s x values v returned trap.NoHandle (λ c. c), (plain_none laws s x values v returned trap.WrongResource (λ c. c), (plain_none laws s x values v returned trap.StillLent (λ c. c), (plain_none laws s x values v returned trap.NotOwned (λ c. c), tt))))))))
     j
 
-no_spill : (b : Bool) → b ≡ false → b ≡ true → ⊥
-no_spill b e f = differ (sym e ∙ f) where
-  differ : false ≡ true → ⊥
-  differ y = cc (y)
-
 in_place : (b : Bool) (xs : List ℕ) (a : ℕ) → b ≡ true → (if b then a ∷ [] else []) ≡ a ∷ []
 in_place b xs a e = ap (λ (c : Bool). if c then a ∷ [] else []) e
 
@@ -216,8 +212,8 @@ places_judged : (laws : Laws) (tuple : TupleFirst) (s : State) (call : Call) (x 
     → (b : Bool) → is_spilled results (types_of x.link results) ≡ b → (e : Event) (new : State) → PlacesResult b (after_lift_of_result s x.link call values v p) x.link call p v e new
     → Judged [] (lift_traps ++ trap.TableFull ∷ []) (ByBody s x values) e
 places_judged laws tuple s call x values of v p found false flat e new row =
-    next_behind _ (ByBody s x values) e trap.Misaligned (plain_none laws s x values v found.returned trap.Misaligned (λ c. no_spill (is_spilled results (types_of x.link results)) flat c.0))
-    (next_behind _ (ByBody s x values) e trap.PointerBounds (plain_none laws s x values v found.returned trap.PointerBounds (λ c. no_spill (is_spilled results (types_of x.link results)) flat c.0))
+    next_behind _ (ByBody s x values) e trap.Misaligned (plain_none laws s x values v found.returned trap.Misaligned (λ c. true_is_not_false (is_spilled results (types_of x.link results)) flat c.0))
+    (next_behind _ (ByBody s x values) e trap.PointerBounds (plain_none laws s x values v found.returned trap.PointerBounds (λ c. true_is_not_false (is_spilled results (types_of x.link results)) flat c.0))
     (skip_rest laws s x values v found.returned e
     (goes_judged laws s (after_lift_of_result s x.link call values v p) call x values of v p p found refl refl refl [] no_answer (sym none_before) (omega arith)
     (slice_get (asked_for x.link results p v) 0) refl e new row))) where

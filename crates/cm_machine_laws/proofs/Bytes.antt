@@ -5,13 +5,15 @@ use Rattle.std.specs.Prelude.{replicate, slice_get, slice_index, slice_set, unwr
 use Rattle.std.proofs.Math.Nat.{div-mul-le_self, lt-div-mul-add}
 use Rattle.std.proofs.lemmas.Bool.{cases_lt}
 use Rattle.std.proofs.lemmas.List.{get_or-append_right, get_or-drop}
-use Rattle.std.proofs.lemmas.List.{get_or-replicate, get_or-take, get_or_append_left, get_or_past}
+use Rattle.std.proofs.lemmas.List.{get_or-take, get_or_append_left}
 use Rattle.std.proofs.lemmas.List.{length-append, length-drop, length-replicate, length-take}
 use Rattle.cm_machine_model.specs.declared.limits.TheConstants.{MAX_PAGES, PAGE_SIZE}
 use Rattle.cm_machine_model.specs.Memories.{after_growth, after_write, memory_at, pages_of}
 use Rattle.cm_machine_model.specs.State.{State}
 use Rattle.cm_machine_model.specs.Step.{Fits}
 use Rattle.cm_machine_told.specs.MemoryChanges.{GrowsExactly, HasPages, OthersStay, WritesExactly}
+use Rattle.cm_machine_model.proofs.MemoriesLaws.{memory_set}
+use Rattle.cm_lemmas.proofs.Numbers.{zero_at}
 
 -- ---- one memory
 
@@ -56,12 +58,6 @@ writes_exactly memory at bytes inside = record {
   there : (a : ℕ) → at + length bytes ≤ a → at + length bytes + (a - (at + length bytes)) ≡ a
   there a le = omega (arith, le)
 
-zeros_only : (n i : ℕ) → slice_index (replicate n 0) i ≡ 0
-zeros_only n i = elim (cases_lt i n) as (λ r. slice_index (replicate n 0) i ≡ 0) [
-  | inl lt ↦ get_or-replicate n i 0 0 lt
-  | inr le ↦ get_or_past (replicate n 0) i 0 (omega (arith, le, length-replicate {A = ℕ} n 0))
-]
-
 pub grows_exactly : (memory : List ℕ) (pages : ℕ)
     → length memory + pages * PAGE_SIZE ≤ MAX_PAGES * PAGE_SIZE
     → GrowsExactly memory pages (after_growth memory pages)
@@ -72,7 +68,7 @@ grows_exactly memory pages fits = record {
   kept = λ a lt. get_or_append_left memory (replicate (pages * PAGE_SIZE) 0) 0 a lt;
   fresh_zeros = λ a le.
       get_or-append_right memory (replicate (pages * PAGE_SIZE) 0) (length memory) a 0 refl le
-      ∙ zeros_only (pages * PAGE_SIZE) (a - length memory);
+      ∙ zero_at (pages * PAGE_SIZE) (a - length memory);
 }
 
 pub has_pages : (memory : List ℕ) → HasPages memory (pages_of memory)
@@ -94,13 +90,6 @@ other_kept (x ∷ ms) zero zero m ne = absurd (ne refl)
 other_kept (x ∷ ms) zero (suc j) m ne = refl
 other_kept (x ∷ ms) (suc i) zero m ne = refl
 other_kept (x ∷ ms) (suc i) (suc j) m ne = other_kept ms i j m (λ e. ne (ap suc e))
-
--- the memory of an instance that is there
-pub memory_set : (ms : List (List ℕ)) (i : ℕ) (m : List ℕ) → i < length ms
-    → memory_at (slice_set ms i m) i ≡ m
-memory_set [] i m lt = absurd (omega (arith, lt))
-memory_set (x ∷ ms) zero m lt = refl
-memory_set (x ∷ ms) (suc i) m lt = memory_set ms i m (omega (arith, lt))
 
 pub memory_other : (ms : List (List ℕ)) (i j : ℕ) (m : List ℕ) → (j ≡ i → ⊥)
     → memory_at (slice_set ms i m) j ≡ memory_at ms j

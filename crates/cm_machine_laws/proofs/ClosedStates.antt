@@ -27,10 +27,12 @@ use Rattle.cm_machine_model.specs.State.{table_at, tables_after_trap, with_place
 use Rattle.cm_machine_model.specs.Valid.{IsValidState}
 use Rattle.cm_machine_told.specs.Closing.{ClosesExactly, PlacesAfterTrap, place_left}
 use Rattle.cm_machine_valid.specs.Taking.{AreThere}
-use Rattle.cm_machine_laws.proofs.ClosedTables.{AreWithin, IsLeft, flags_closed, flags_length}
-use Rattle.cm_machine_laws.proofs.ClosedTables.{get_set_other, get_set_same, instances_of}
+use Rattle.cm_machine_laws.proofs.ClosedTables.{AreWithin, IsLeft, flags_closed}
+use Rattle.cm_machine_laws.proofs.ClosedTables.{get_set_other, instances_of}
 use Rattle.cm_machine_laws.proofs.ClosedTables.{lifted_left, set_length, tables_closed, tables_open}
 use Rattle.cm_machine_laws.proofs.ClosedTables.{within_plan}
+use Rattle.cm_machine_model.proofs.StateLaws.{flags_length, length_places}
+use Rattle.cm_lemmas.proofs.Lists.{get_set_same}
 
 -- ---- what is asked of the layers below
 
@@ -59,11 +61,6 @@ left_place (place.InTable i index) = refl
 left_place (place.Travelling frame) = refl
 left_place place.Abandoned = refl
 left_place place.Dropped = refl
-
-travel_length : (p : Place) (hs : List HandleValue) (xs : List Place)
-    → length (with_places p hs xs) ≡ length xs
-travel_length p [] xs = refl
-travel_length p (h ∷ hs) xs = travel_length p hs (slice_set xs h.serial p) ∙ set_length xs h.serial p
 
 travel_other : (p : Place) (hs : List HandleValue) (xs : List Place) (n : ℕ)
     → (Contains (map (λ h. h.serial) hs) n → ⊥)
@@ -100,7 +97,7 @@ places_left : (s new : State) (n : ℕ) (hs : List HandleValue)
     → new.owners ≡ map place_after_trap (with_places (place.Travelling n) hs s.owners)
     → ((h : HandleValue) → Contains hs h → h.serial < length s.owners) → PlacesAfterTrap s hs new
 places_left s new n hs is made = record {
-  count = ap (λ (xs : List Place). length xs) is ∙ (length-map now place_after_trap ∙ travel_length (place.Travelling n) hs s.owners);
+  count = ap (λ (xs : List Place). length xs) is ∙ (length-map now place_after_trap ∙ length_places (place.Travelling n) hs s.owners);
   lost_now = λ h c.
       left h.serial (place.Travelling n) (travel_now (place.Travelling n) hs s.owners h c (made h c));
   others = λ k p not at.

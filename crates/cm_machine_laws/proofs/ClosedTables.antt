@@ -17,6 +17,8 @@ use Rattle.cm_machine_model.specs.Plan.{Plan}
 use Rattle.cm_machine_model.specs.State.{closed_after_trap, table_at, tables_after_trap}
 use Rattle.cm_machine_model.specs.Valid.{IsStack}
 use Rattle.cm_machine_told.specs.Closing.{left_by, left_of}
+use Rattle.cm_lemmas.proofs.Lists.{get_set_same}
+use Rattle.cm_machine_model.proofs.StateLaws.{table_same}
 
 -- ---- lists
 
@@ -25,12 +27,6 @@ set_length [] i x = refl
 set_length (y ∷ ys) zero x = refl
 set_length (y ∷ ys) (suc i) x = ap suc (set_length ys i x)
 
-pub get_set_same : {X : Type 0} (xs : List X) (i : ℕ) (x : X) → i < length xs
-    → slice_get (slice_set xs i x) i ≡ Some x
-get_set_same [] i x lt = absurd (omega (arith, lt))
-get_set_same (y ∷ ys) zero x lt = refl
-get_set_same (y ∷ ys) (suc i) x lt = get_set_same ys i x (omega (arith, lt))
-
 pub get_set_other : {X : Type 0} (xs : List X) (i j : ℕ) (x : X) → (j ≡ i → ⊥)
     → slice_get (slice_set xs i x) j ≡ slice_get xs j
 get_set_other [] i j x ne = refl
@@ -38,10 +34,6 @@ get_set_other (y ∷ ys) zero zero x ne = absurd (ne refl)
 get_set_other (y ∷ ys) zero (suc j) x ne = refl
 get_set_other (y ∷ ys) (suc i) zero x ne = refl
 get_set_other (y ∷ ys) (suc i) (suc j) x ne = get_set_other ys i j x (λ e. ne (ap suc e))
-
-table_same : (ts : List Handles) (i : ℕ) (t : Handles) → i < length ts
-    → table_at (slice_set ts i t) i ≡ t
-table_same ts i t lt = ap (λ (o : Option Handles). unwrap_or o no_handles) (get_set_same ts i t lt)
 
 table_other : (ts : List Handles) (i j : ℕ) (t : Handles) → (j ≡ i → ⊥)
     → table_at (slice_set ts i t) j ≡ table_at ts j
@@ -108,12 +100,6 @@ flags_closed (f ∷ fs) cs w i =
     (slice_get (closed_after_trap fs (slice_set cs f.instance true)) i ≡ Some true) w.0
     (flags_closed fs (slice_set cs f.instance true)
     (subst (λ (n : ℕ). AreWithin n fs) (sym (set_length cs f.instance true)) w.1) i)
-
-pub flags_length : (fs : List Frame) (cs : List Bool)
-    → length (closed_after_trap fs cs) ≡ length cs
-flags_length [] cs = refl
-flags_length (f ∷ fs) cs =
-    flags_length fs (slice_set cs f.instance true) ∙ set_length cs f.instance true
 
 -- ---- what is left of a handle
 

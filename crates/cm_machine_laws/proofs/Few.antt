@@ -27,10 +27,9 @@ use Rattle.cm_abi_model.specs.Taken.{Met, content, lent, lent_of, met, met_at, m
 use Rattle.cm_abi_model.specs.Taken.{met_flat_fields, met_flat_payload, met_in_fields}
 use Rattle.cm_abi_model.specs.Taken.{met_in_payload, taken, text_content}
 use Rattle.cm_abi_model.specs.Views.{View, Way}
-use Rattle.cm_abi_model.specs.Telling.{TellAll}
-use Rattle.cm_abi_model.specs.declared.record.PartRecord.{PartRecord}
 use Rattle.cm_abi_model.specs.Answering.{begins_part, places_of, regions_of}
 use Rattle.cm_abi_model.specs.declared.region.Region.{Region}
+use Rattle.cm_abi_model.proofs.RequestsLaws.{starts}
 
 -- ---- parts
 
@@ -172,11 +171,6 @@ module _ (w : View) where
 
 -- ---- records and places
 
-pub told_count : (w : View) (target : StringEncoding) (rs : List PartRecord) (ps : List Part) (at : List ℕ) → TellAll w target rs ps at → length rs ≡ length ps
-told_count w target [] [] [] x = refl
-told_count w target (r ∷ rs) (p ∷ ps) (a ∷ at) x = ap suc (told_count w target rs ps at x.1)
-told_count w target rs ps at x = absurd x
-
 pub call_few : (way : Way) (types : Fields) (v : Val) → length (call_parts way types v) + length (leaves_in (tuple_of types) v) ≤ parts_of way types v
 call_few way types v = by (is_spilled way types) where
   by : (b : Bool) → length (if b then element_part 1 (size_of (tuple_of types)) (align_of (tuple_of types)) ∷ parts_in (tuple_of types) v else parts_in (tuple_of types) v) + length (leaves_in (tuple_of types) v)
@@ -224,18 +218,9 @@ regions_few (r ∷ rs) (a ∷ answers) = by (begins_part rs) (r.chained) (region
   by false true x = omega (arith, x)
   by false false x = omega (arith, x)
 
-chain_first : (align : ℕ) (sizes : List ℕ) (rest : List Request) → begins_part rest ≡ true → begins_part (chain align sizes ++ rest) ≡ true
-chain_first align [] rest first = first
-chain_first align (size ∷ sizes) rest first = refl
-
-pub part_first : (source target : StringEncoding) (tags : List Bool) (ps : List Part) → begins_part (part_requests source target tags ps) ≡ true
-part_first source target tags [] = refl
-part_first source target tags (p ∷ ps) =
-    chain_first (part_align target p) (part_sizes (read_charset source (first_tag tags)) (stored_charset target) p) (part_requests source target (tags_behind p tags) ps) (part_first source target (tags_behind p tags) ps)
-
 pub places_few : (way : Way) (types : Fields) (v : Val) (source target : StringEncoding) (tags : List Bool) (answers : List ℕ)
     → length (places_of (requests way types v source target tags) answers) ≤ length (call_parts way types v)
 places_few way types v source target tags answers =
     let rs = part_requests source target tags (call_parts way types v) in
-    let ends : ◌≡◌ {A = ℕ} (if begins_part rs then 0 else 1) 0 = ap (λ (b : Bool). if b then 0 else 1) (part_first source target tags (call_parts way types v)) in
+    let ends : ◌≡◌ {A = ℕ} (if begins_part rs then 0 else 1) 0 = ap (λ (b : Bool). if b then 0 else 1) (starts source target tags (call_parts way types v)) in
     omega (arith, length-map (regions_of rs answers) (λ (r : Region). r.at), regions_few rs answers, part_begins source target tags (call_parts way types v), ends)

@@ -10,7 +10,6 @@ use Rattle.cm_types.specs.declared.core_value.CoreValue.TheVariants as core_valu
 use Rattle.cm_abi_model.specs.declared.request.Request.{Request}
 use Rattle.cm_abi_model.specs.Numbers.{slot_at}
 use Rattle.cm_abi_model.specs.Answering.{places_of}
-use Rattle.cm_abi_model.specs.Answered.{last_answer}
 use Rattle.cm_machine_model.specs.Memories.{memory_at}
 use Rattle.cm_machine_model.specs.declared.frame.Frame.{Frame}
 use Rattle.cm_machine_model.specs.Plan.{Plan}
@@ -21,6 +20,7 @@ use Rattle.cm_machine_told.specs.Doing.{Asked, Doing, answer_of, body, destroys,
 use Rattle.cm_machine_told.specs.Matching.{AllMatch}
 use Rattle.cm_machine_told.specs.Told.{AsksFor, answers_in, one_answer}
 use Rattle.cm_machine_laws.specs.Following.{AreBelow, AreFollowed, IsOneOpen}
+use Rattle.cm_lemmas.proofs.Lists.{length_push}
 
 -- ---- what goes on below
 
@@ -78,15 +78,6 @@ one_value (core_value.I32 n ∷ cs) e = refl
 one_value (core_value.I64 n ∷ cs) e = absurd (differ (map kind_of cs) e) where
   differ : (ks : List CoreKind) → kind.I64 ∷ ks ≡ kind.I32 ∷ [] → ⊥
   differ ks x = cc (x)
-
-pub last_push : (xs : List ℕ) (a : ℕ) → last_answer (xs ++ a ∷ []) ≡ a
-last_push [] a = refl
-last_push (x ∷ []) a = refl
-last_push (x ∷ y ∷ xs) a = last_push (y ∷ xs) a
-
-pub length_push : (xs : List ℕ) (a : ℕ) → length (xs ++ a ∷ []) ≡ suc (length xs)
-length_push [] a = refl
-length_push (x ∷ xs) a = ap suc (length_push xs a)
 
 -- the unanswered request is answered
 pub answered_in : (values : List CoreValue) (asked : List Asked) → AreOf one_i32 values → IsOneOpen asked → answers_in (with_answer values asked) ≡ answers_in asked ++ slot_at values 0 ∷ []

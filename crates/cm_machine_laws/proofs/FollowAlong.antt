@@ -20,6 +20,7 @@ use Rattle.cm_machine_told.specs.Matching.{AllMatch, AreTold}
 use Rattle.cm_machine_laws.specs.Following.{AreBelow, AreFollowed}
 use Rattle.cm_machine_laws.proofs.FollowCases.{SaysOf, follow_case}
 use Rattle.cm_machine_laws.proofs.ValueTurns.{OneCarried}
+use Rattle.cm_machine_model.proofs.HistoryLaws.{earlier}
 
 abbrev pub StaysValid : Type 0
 StaysValid = (plan : Plan) (pages : List ℕ) (h : List Occurrence) (s : State) → IsHistoryOf plan pages h s → IsValidState plan s
@@ -29,9 +30,6 @@ IsTold = (plan : Plan) (pages : List ℕ) (h : List Occurrence) (s : State) → 
 
 abbrev pub IsFollowedAlong : Type 0
 IsFollowedAlong = (plan : Plan) (pages : List ℕ) (h : List Occurrence) (s : State) → IsHistoryOf plan pages h s → AreFollowed s (doing plan h)
-
-pub earlier : (plan : Plan) (pages : List ℕ) (x : Occurrence) (h : List Occurrence) (s : State) → IsHistoryOf plan pages (x ∷ h) s → IsHistoryOf plan pages h x.before
-earlier plan pages x h s y = record { linked = y.linked; pages_fit = y.pages_fit; history = y.history.0 }
 
 step_follows : OneCarried → (plan : Plan) (s : State) (m : Move) (e : Event) (new : State) (acting : Option ℕ) (ds : List Doing) → IsValidState plan s → AreTold plan s acting ds → AreFollowed s ds → IsCase plan s m e new
     → AreFollowed new (after_move plan acting s m e ds) × SaysOf e (after_move plan acting s m e ds) new

@@ -43,12 +43,14 @@ use Rattle.cm_machine_told.specs.Entries.{Enters, GivesBack, Tidies}
 use Rattle.cm_machine_told.specs.Matching.{AllMatch}
 use Rattle.cm_machine_told.specs.Told.{WasReturned, WasSent, answered_before, answers_back, answers_in, is_by_memory, result_place_of, returned_requests, sent_requests}
 use Rattle.cm_machine_laws.specs.Following.{AreBelow, AreFollowed, IsHanding, IsKept, IsPlacing}
-use Rattle.cm_machine_laws.proofs.Follow.{answered_asks, answered_count, answered_in, answered_length, below_of, last_push, length_push, memory_kept, no_places, open_count, past_end, resumed, some_below, stays_followed}
+use Rattle.cm_machine_laws.proofs.Follow.{answered_asks, answered_count, answered_in, answered_length, below_of, memory_kept, no_places, open_count, past_end, resumed, some_below, stays_followed}
 use Rattle.cm_machine_told.specs.CallsOn.{IsBodyCall, IsHandingCall, IsPlacingCall, body_call, handing_call, placing_call, tidying_call}
 use Rattle.cm_machine_told.specs.Frames.{match_length, may_call}
 use Rattle.cm_machine_laws.proofs.GivenBack.{gives_back}
 use Rattle.std.proofs.lemmas.Option.{same_Some}
 use Rattle.cm_machine_laws.proofs.ValueTurns.{IsSettled, IsTurn, OneCarried, settled, turn}
+use Rattle.cm_abi_model.proofs.AnsweredLaws.{last_push}
+use Rattle.cm_lemmas.proofs.Lists.{length_push}
 
 -- what an event says of the call that goes on
 abbrev pub SaysOf : Event → List Doing → State → Type 0

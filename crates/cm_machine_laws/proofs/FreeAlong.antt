@@ -1,8 +1,8 @@
 -- Why the free indices of each history are those that it left.
-use Rattle.std.proofs.Common.{◌≡◌, ℕ, zero, suc, true, List, [], ◌∷◌, Option, Some, refl, sym, ap, subst, ◌∙◌}
-use Rattle.std.specs.Prelude.{length, replicate, slice_get}
+use Rattle.std.proofs.Common.{◌≡◌, ℕ, true, List, [], ◌∷◌, Option, Some, refl, sym, ap, subst, ◌∙◌}
+use Rattle.std.specs.Prelude.{length, slice_get}
 use Rattle.std.specs.Option.{option_map}
-use Rattle.cm_handles.specs.Handles.{Handles, next_index, no_handles}
+use Rattle.cm_handles.specs.Handles.{Handles, next_index}
 use Rattle.cm_machine_model.specs.declared.event.Event.{Event}
 use Rattle.cm_machine_model.specs.declared.event.Event.TheVariants as event
 use Rattle.cm_machine_model.specs.declared.frame.Frame.{Frame}
@@ -26,6 +26,7 @@ use Rattle.cm_machine_laws.proofs.Calls.{Laws}
 use Rattle.cm_machine_laws.proofs.FreeCases.{IsStepped, free_case}
 use Rattle.cm_machine_laws.proofs.FreeTables.{next_is}
 use Rattle.cm_machine_laws.proofs.HandlesAlong.{IsFollowedAlong, IsTold, StaysValid}
+use Rattle.cm_machine_model.proofs.StateLaws.{table_none}
 
 -- what an action does: the indices of an instance that it does not close are used as told
 record IsActed (plan : Plan) (s : State) (ds : List Doing) (acting : Option ℕ) (a : Action)
@@ -74,12 +75,6 @@ acted laws plan s (begins i) e new acting ds valid told f x =
 acted laws plan s (moves m) e new acting ds valid told f x =
     moved laws plan s m e new acting ds valid told f x.1
 
--- the tables of a fresh set
-fresh_table : (n j : ℕ) → table_at (replicate n no_handles) j ≡ no_handles
-fresh_table zero j = refl
-fresh_table (suc n) zero = refl
-fresh_table (suc n) (suc j) = fresh_table n j
-
 -- what a history leaves, tied to the tables
 abbrev IsTied : Plan → List Occurrence → State → Type 0
 IsTied plan h s =
@@ -106,7 +101,7 @@ tied laws valid told follow plan pages [] s y = (
   (λ j. refl),
   (λ j still.
       ap (λ (n : State). free_in (table_at n.tables j)) y.history
-      ∙ ap (λ (t : Handles). free_in t) (fresh_table (length plan) j)),
+      ∙ ap (λ (t : Handles). free_in t) (table_none (length plan) j)),
 )
 tied laws valid told follow plan pages (x ∷ h) s y =
     let before : IsHistoryOf plan pages h x.before = record { linked = y.linked; pages_fit = y.pages_fit; history = y.history.0 } in

@@ -18,7 +18,9 @@ use Rattle.cm_machine_told.specs.FreeIndices.{Free, after_adding, after_freeing,
 use Rattle.cm_machine_told.specs.FreeIndices.{after_use, count_for, free_in, index_for, indices_of}
 use Rattle.cm_machine_told.specs.FreeIndices.{index_among}
 use Rattle.cm_machine_model.specs.declared.frame.Frame.{Frame}
-use Rattle.cm_machine_laws.proofs.Tables.{set_length, set_past, table_other, table_same}
+use Rattle.cm_machine_laws.proofs.Tables.{set_length, table_other}
+use Rattle.cm_lemmas.proofs.Lists.{set_past}
+use Rattle.cm_machine_model.proofs.StateLaws.{table_same}
 
 abbrev free_of : List ℕ → ℕ → Free
 free_of freed unused = record { freed = freed; unused = unused }

@@ -1,12 +1,11 @@
 -- Why what a caller gets back is the result, and why it stays while the callee tidies up.
-use Rattle.std.proofs.Common.{◌≡◌, ℕ, zero, suc, ◌+◌, ◌-◌, ◌*◌, ◌<◌, ◌≤◌, inl, inr, Bool, true}
+use Rattle.std.proofs.Common.{◌≡◌, ℕ, zero, suc, ◌+◌, ◌-◌, ◌*◌, ◌≤◌, inl, inr, Bool, true}
 use Rattle.std.proofs.Common.{false, List, [], ◌∷◌, ◌++◌, length, Option, Some, None, refl, sym, ap}
 use Rattle.std.proofs.Common.{subst, ◌∙◌, arith}
 use Rattle.std.specs.Prelude.{map, slice_index, slice_set, ◌==◌, if◌then◌else◌}
 use Rattle.std.specs.Option.{option_map}
 use Rattle.std.proofs.lemmas.Bool.{cases_eq, cases_lt, ltb-false}
-use Rattle.std.proofs.lemmas.List.{get_or-set_other, get_or-set_same, get_or_past, length-map}
-use Rattle.std.proofs.lemmas.Option.{none-some}
+use Rattle.std.proofs.lemmas.List.{get_or-set_other, get_or-set_same, length-map}
 use Rattle.cm_types.specs.CoreValues.{kind_of}
 use Rattle.cm_types.specs.declared.core_value.CoreKind.{CoreKind}
 use Rattle.cm_types.specs.declared.core_value.CoreKind.TheVariants as kind
@@ -35,7 +34,9 @@ use Rattle.cm_machine_model.specs.State.{State, table_at, tables_after_call, tab
 use Rattle.cm_machine_model.specs.State.{view_of}
 use Rattle.cm_machine_model.specs.Step.{as_values, first_value}
 use Rattle.cm_machine_told.specs.Entries.{GivesBack}
-use Rattle.cm_machine_laws.proofs.Few.{part_first}
+use Rattle.cm_abi_model.proofs.RequestsLaws.{starts}
+use Rattle.cm_machine_model.proofs.StateLaws.{table_same}
+use Rattle.cm_handles.proofs.SoundHandles.{within_slots}
 
 -- What is received stays.
 abbrev pub ReceivedStays : Type 0
@@ -43,24 +44,15 @@ ReceivedStays = (w u : View) (way : Way) (types : Fields) (slots : List CoreValu
 
 -- ---- handles that are lent to nobody stand while lends end
 
-some_within : (t : Handles) (i : ℕ) (h : Handle) → handle_at t i ≡ Some h → i < length t.slots
-some_within t i h stands =
-    elim (cases_lt i (length t.slots)) [ inl below ↦ below | inr past ↦ absurd (none-some h (sym (get_or_past t.slots i None past) ∙ stands)) ]
-
 unlend_stays : (t : Handles) (k index : ℕ) (h : Handle) → handle_at t index ≡ Some h → h.lends ≡ 0 → handle_at (after_unlend t k) index ≡ Some h
 unlend_stays t k index h stands none = elim (cases_eq index k) as (λ r. handle_at (after_unlend t k) index ≡ Some h) [
   | inl same ↦ subst (λ (j : ℕ). handle_at (after_unlend t j) index ≡ Some h) same
-      (get_or-set_same t.slots index (option_map (λ x. with_lends (x.lends - 1) x) (handle_at t index)) None (some_within t index h stands)
+      (get_or-set_same t.slots index (option_map (λ x. with_lends (x.lends - 1) x) (handle_at t index)) None (within_slots t index h stands)
       ∙ (ap (λ (o : Option Handle). option_map (λ x. with_lends (x.lends - 1) x) o) stands ∙ ap (λ (n : ℕ). Some (with_lends n h)) (less h.lends none)))
   | inr apart ↦ get_or-set_other t.slots k index (option_map (λ x. with_lends (x.lends - 1) x) (handle_at t k)) None apart ∙ stands
 ] where
   less : (n : ℕ) → n ≡ 0 → n - 1 ≡ n
   less n e = omega (arith, e)
-
-set_same : (ts : List Handles) (i : ℕ) (t : Handles) → i < length ts → table_at (slice_set ts i t) i ≡ t
-set_same [] i t lt = absurd (omega (arith, lt))
-set_same (x ∷ ts) zero t lt = refl
-set_same (x ∷ ts) (suc i) t lt = set_same ts i t (omega (arith, lt))
 
 set_other : (ts : List Handles) (i j : ℕ) (t : Handles) → (j ≡ i → ⊥) → table_at (slice_set ts i t) j ≡ table_at ts j
 set_other [] i j t ne = refl
@@ -78,7 +70,7 @@ one_unlent : (ts : List Handles) (l : Lend) (i : ℕ) → UnlentStay (table_at t
 one_unlent ts l i index h stands none = elim (cases_eq i l.instance) as (λ r. handle_at (table_at (tables_after_unlend l ts) i) index ≡ Some h) [
   | inl same ↦ elim (cases_lt l.instance (length ts)) as (λ r. handle_at (table_at (tables_after_unlend l ts) i) index ≡ Some h) [
     | inl lt ↦ subst (λ (j : ℕ). handle_at (table_at (tables_after_unlend l ts) j) index ≡ Some h) (sym same)
-        (subst (λ (t : Handles). handle_at t index ≡ Some h) (sym (set_same ts l.instance (after_unlend (table_at ts l.instance) l.index) lt))
+        (subst (λ (t : Handles). handle_at t index ≡ Some h) (sym (table_same ts l.instance (after_unlend (table_at ts l.instance) l.index) lt))
         (unlend_stays (table_at ts l.instance) l.index index h (subst (λ (j : ℕ). handle_at (table_at ts j) index ≡ Some h) same stands) none))
     | inr past ↦ subst (λ (xs : List Handles). handle_at (table_at xs i) index ≡ Some h) (sym (set_past ts l.instance (after_unlend (table_at ts l.instance) l.index) past)) stands
   ]
@@ -146,7 +138,7 @@ gives_back w types slots g v source target tags place answers r places =
       at_first true e p =
           ap (λ (xs : List ℕ). slice_index xs 0) p
           ∙ first_place (record { chained = false; old_size = 0; align = align_of (tuple_of types); size = 1 * size_of (tuple_of types) })
-          (part_requests source target tags (parts_in (tuple_of types) v)) place answers (part_first source target tags (parts_in (tuple_of types) v))
+          (part_requests source target tags (parts_in (tuple_of types) v)) place answers (starts source target tags (parts_in (tuple_of types) v))
       at_first false e p = absurd (differ e) where
         differ : false ≡ true → ⊥
         differ x = cc (x)

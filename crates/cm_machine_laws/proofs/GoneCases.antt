@@ -1,16 +1,13 @@
 -- Why each case of a step keeps what is gone.
-use Rattle.std.proofs.Common.{◌≡◌, ℕ, inl, inr, Bool, true, false, List, [], ◌∷◌, length, Option}
+use Rattle.std.proofs.Common.{◌≡◌, ℕ, inl, inr, List, [], ◌∷◌, length, Option}
 use Rattle.std.proofs.Common.{Some, None, refl, sym, ap, subst, ◌∙◌}
-use Rattle.std.specs.Prelude.{map, Result, Ok, Err, ◌==◌, if◌then◌else◌}
+use Rattle.std.specs.Prelude.{map}
 use Rattle.std.proofs.lemmas.Option.{same_Some}
 use Rattle.cm_types.specs.declared.core_value.CoreValue.{CoreValue}
 use Rattle.cm_types.specs.declared.resource.ResourceId.{ResourceId}
 use Rattle.cm_types.specs.Types.{Fields}
 use Rattle.cm_types.specs.Values.{Val}
-use Rattle.cm_handles.specs.Handles.{Handles, handle_at, if_not_lent, is_same_resource, look_up}
-use Rattle.cm_handles.specs.Handles.{of_resource}
-use Rattle.cm_handles.specs.declared.fault.HandleFault.{HandleFault}
-use Rattle.cm_handles.specs.declared.fault.HandleFault.TheVariants as handle_fault
+use Rattle.cm_handles.specs.Handles.{Handles, handle_at, look_up}
 use Rattle.cm_handles.specs.declared.handle.Handle.{Handle}
 use Rattle.cm_handles.specs.declared.handle.HandleKind.TheVariants as handle
 use Rattle.cm_abi_model.specs.HandleLeaves.{owned_in}
@@ -48,37 +45,10 @@ use Rattle.cm_machine_laws.proofs.Gone.{IsFinal, IsLive, Keeps, keeps_both, keep
 use Rattle.cm_machine_laws.proofs.Gone.{keeps_push, keeps_same, keeps_set, keeps_trap}
 use Rattle.cm_machine_laws.proofs.Gone.{keeps_travel, live_travel}
 use Rattle.cm_machine_laws.proofs.OnTheWay.{StaysValid}
+use Rattle.cm_handles.proofs.HandlesLaws.{looked, not_lent}
 
 abbrev pub MetAreThere : Type 0
 MetAreThere = (w : View) (way : Way) (types : Fields) (slots : List CoreValue) (v : Val) → Denotes w way types slots v → AreThere w.table (met w way types slots v) (leaves_in (tuple_of types) v)
-
-abbrev okay : Handle → Result Handle HandleFault
-okay h = Ok h
-
-abbrev failed : HandleFault → Result Handle HandleFault
-failed f = Err f
-
-err_is_no_ok : (f : HandleFault) (h : Handle) → failed f ≡ okay h → ⊥
-err_is_no_ok f h e = cc (e)
-
-ok_in : (g h : Handle) → okay g ≡ okay h → g ≡ h
-ok_in g h e = cc (e)
-
-same_by : (b : Bool) (g h : Handle) → (if b then Ok g else Err handle_fault.WrongResource) ≡ Ok h → g ≡ h
-same_by true g h e = ok_in g h e
-same_by false g h e = absurd (err_is_no_ok handle_fault.WrongResource h e)
-
-looked : (o : Option Handle) (r : ResourceId) (h : Handle) → of_resource o r ≡ Ok h → o ≡ Some h
-looked None r h e = absurd (err_is_no_ok handle_fault.NoHandle h e)
-looked (Some g) r h e = ap Some (same_by (is_same_resource g.resource r) g h e)
-
-lent_by : (b : Bool) (g h : Handle) → (if b then Ok g else Err handle_fault.StillLent) ≡ Ok h → g ≡ h
-lent_by true g h e = ok_in g h e
-lent_by false g h e = absurd (err_is_no_ok handle_fault.StillLent h e)
-
-not_lent : (x : Result Handle HandleFault) (h : Handle) → if_not_lent x ≡ Ok h → x ≡ Ok h
-not_lent (Err f) h e = absurd (err_is_no_ok f h e)
-not_lent (Ok g) h e = ap Ok (lent_by (g.lends == 0) g h e)
 
 -- a handle that owns is met for each resource that a value owns
 owned_among : (t : Handles) (ms : List Met) (ls : List HandleLeaf) (n : ℕ) → AreThere t ms ls → IsAmong (serials (owned_in ls)) n

@@ -63,11 +63,14 @@ use Rattle.cm_machine_told.specs.Told.{returner_view, sender_view, sent_slots, r
 use Rattle.cm_machine_laws.specs.Following.{AreFollowed, IsHanding, IsPlacing}
 use Rattle.cm_machine_laws.proofs.Calls.{IsTurn, Laws, turn}
 use Rattle.cm_machine_told.specs.CallsOn.{as_framed, callee_apart, callee_there, caller_there, framed}
-use Rattle.cm_machine_laws.proofs.Found.{Stands, free, looked}
+use Rattle.cm_machine_laws.proofs.Found.{Stands, looked}
 use Rattle.cm_machine_laws.proofs.Tables.{added_stays, given_added}
-use Rattle.cm_machine_laws.proofs.Tables.{Adds, call_ends, changes_one, get_set_same, given_stays}
+use Rattle.cm_machine_laws.proofs.Tables.{Adds, call_ends, changes_one, given_stays}
 use Rattle.cm_machine_laws.proofs.Tables.{gone_stays, met_gone, met_stays, stays_as}
-use Rattle.cm_machine_laws.proofs.Tables.{set_length, stays_both, stays_but, table_other, table_same}
+use Rattle.cm_machine_laws.proofs.Tables.{set_length, stays_both, stays_but, table_other}
+use Rattle.cm_handles.proofs.HandlesLaws.{free}
+use Rattle.cm_lemmas.proofs.Lists.{get_set_same}
+use Rattle.cm_machine_model.proofs.StateLaws.{table_same}
 
 -- ---- one table of some
 

@@ -27,8 +27,9 @@ use Rattle.cm_machine_told.specs.Doing.{root, tidying}
 use Rattle.cm_machine_told.specs.Matching.{AllMatch, MatchIn, MatchOne}
 use Rattle.cm_machine_told.specs.Told.{sender_view, sent_slots}
 use Rattle.cm_machine_laws.specs.Following.{AreFollowed}
-use Rattle.cm_machine_laws.proofs.Few.{call_few, met_few, places_few, told_count}
+use Rattle.cm_machine_laws.proofs.Few.{call_few, met_few, places_few}
 use Rattle.cm_machine_laws.proofs.FollowAlong.{IsFollowedAlong, IsTold, StaysValid}
+use Rattle.cm_abi_model.proofs.TellingLaws.{as_many}
 
 -- what is kept of a value that is on its way
 bounded : (s : State) (memory : List ℕ) (l : Link) (way : Way) (p : Passage) (v : Val) (rs : List Request) (answers : List ℕ) → s.passage ≡ Some p → Carries memory l way p v → asked_for l way p v ≡ rs → HasAnswers rs answers p
@@ -42,7 +43,7 @@ bounded s memory l way p v rs answers at_top c asks has = record {
   few = call_few way (types_of l way) v
 
   records : length p.records ≡ length (call_parts way (types_of l way) v)
-  records = told_count c.view (receiver_side l way).encoding p.records (call_parts way (types_of l way) v) c.starts c.told
+  records = as_many c.view (receiver_side l way).encoding p.records (call_parts way (types_of l way) v) c.starts c.told
 
   handles : length p.leaves ≡ length (leaves_in (tuple_of (types_of l way)) v)
   handles = ap (λ (ls : List HandleLeaf). length ls) c.handles

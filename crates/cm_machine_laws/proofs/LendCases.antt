@@ -1,18 +1,15 @@
 -- Why each case of a step keeps what is lent told.
-use Rattle.std.proofs.Common.{◌≡◌, ℕ, ◌+◌, Bool, true, false, List, [], ◌∷◌, ◌++◌, length, Option}
+use Rattle.std.proofs.Common.{◌≡◌, ℕ, ◌+◌, List, [], ◌∷◌, ◌++◌, length, Option}
 use Rattle.std.proofs.Common.{Some, None, refl, sym, ap, subst, ◌∙◌, append-nil}
 use Rattle.std.specs.Prelude.{⊤, slice_get}
-use Rattle.std.proofs.lemmas.Option.{none-some}
-use Rattle.cm_machine_model.specs.declared.event.Misuse.TheVariants as misuse
 use Rattle.std.specs.Option.{option_map}
 use Rattle.std.specs.declared.alloc.Global.{Global}
 use Rattle.std.specs.declared.vec.Vec.{Vec}
 use Rattle.cm_types.specs.declared.core_value.CoreValue.{CoreValue}
 use Rattle.cm_types.specs.Values.{Val}
-use Rattle.cm_handles.specs.Handles.{Handles}
-use Rattle.cm_abi_model.specs.Receives.{HandleLeaf, borrowed_leaf, leaves_in, owned_leaf}
+use Rattle.cm_abi_model.specs.Receives.{leaves_in}
 use Rattle.cm_abi_model.specs.Requests.{tuple_of}
-use Rattle.cm_abi_model.specs.Taken.{Met, content, lent, lent_of, met, taken, text_content}
+use Rattle.cm_abi_model.specs.Taken.{lent, lent_of, met}
 use Rattle.cm_abi_model.specs.Views.{params, results}
 use Rattle.cm_machine_model.specs.declared.event.Event.{Event}
 use Rattle.cm_machine_model.specs.declared.event.Event.TheVariants as event
@@ -32,14 +29,11 @@ use Rattle.cm_machine_model.specs.Cases.{return_asks, return_ends, return_tidies
 use Rattle.cm_machine_model.specs.Cases.{stayed, tidied, trapped, wrote}
 use Rattle.cm_machine_model.specs.History.{Action, Happens, IsHistoryOf, Occurrence, begins, moves}
 use Rattle.cm_machine_model.specs.Plan.{CoreFunc, Link, Plan, core_func_at, lowered, types_of}
-use Rattle.cm_machine_model.specs.Plans.{NoneBorrowed}
-use Rattle.cm_machine_model.specs.Run.{misuse_by_closed, misuse_by_stack}
 use Rattle.cm_machine_model.specs.Stack.{actor, below_top, top_of}
 use Rattle.cm_machine_model.specs.State.{Passage, State, lends_after_call, lends_to, table_at}
 use Rattle.cm_machine_model.specs.Step.{after_lift_of_result, arg_slots, args_view, result_view}
 use Rattle.cm_machine_model.specs.Step.{top_place}
 use Rattle.cm_machine_model.specs.Valid.{IsValidState}
-use Rattle.cm_machine_valid.specs.Taking.{AreThere}
 use Rattle.cm_machine_told.specs.Acting.{acts}
 use Rattle.cm_machine_told.specs.Always.{Always}
 use Rattle.cm_machine_told.specs.CallsOn.{IsBodyCall, body_call, handing_call, placing_call}
@@ -53,18 +47,8 @@ use Rattle.cm_machine_told.specs.Matching.{AllMatch, AreTold, MatchOne}
 use Rattle.cm_machine_laws.proofs.GoneCases.{MetAreThere}
 use Rattle.cm_machine_laws.proofs.Lending.{ends_lent}
 use Rattle.cm_machine_laws.proofs.OnTheWay.{IsTold, StaysValid}
-
--- nothing is lent where nothing is to be borrowed
-none_lent : (t : Handles) (ms : List Met) (ls : List HandleLeaf) → AreThere t ms ls → NoneBorrowed ls → lent_of ms ≡ []
-none_lent t [] ls x b = refl
-none_lent t (text_content tags n ∷ ms) ls x b = none_lent t ms ls x b
-none_lent t (content n ∷ ms) ls x b = none_lent t ms ls x b
-none_lent t (taken i ∷ ms) [] x b = absurd x
-none_lent t (taken i ∷ ms) (owned_leaf h ∷ ls) x b = none_lent t ms ls x.1 b
-none_lent t (taken i ∷ ms) (borrowed_leaf h ∷ ls) x b = absurd x
-none_lent t (lent i ∷ ms) [] x b = absurd x
-none_lent t (lent i ∷ ms) (owned_leaf h ∷ ls) x b = absurd x
-none_lent t (lent i ∷ ms) (borrowed_leaf h ∷ ls) x b = absurd b
+use Rattle.cm_machine_model.proofs.RunLaws.{may_begin}
+use Rattle.cm_machine_valid.proofs.LentLeaves.{none_lent}
 
 abbrev pub Told : Plan → State → Frame → List Doing → Move → Event → State → Type 0
 Told plan s top ds m e new = AreLent (after_move plan (Some (actor top)) s m e ds) new.lends
@@ -94,13 +78,6 @@ one_ended pu plan i n d rest ls none m x = absurd m
 top_lent : (plan : Plan) (top : Frame) (fs : List Frame) (ds : List Doing) (ls : List Lend) (pu : Purpose) → top.purpose ≡ pu → IsNoCall pu → AllMatch plan (top ∷ fs) ds → AreLent ds ls → AreLent (below ds) ls
 top_lent plan top fs [] ls pu is none m x = absurd m
 top_lent plan top fs (d ∷ rest) ls pu is none m x = one_ended top.purpose plan top.instance (length fs) d rest ls (subst IsNoCall (sym is) none) m.0 x
-
--- a begin that is accepted
-may_begin : (fs : List Frame) (o : Option Bool) → misuse_by_stack fs (misuse_by_closed o) ≡ None → (fs ≡ []) × (o ≡ Some false)
-may_begin [] (Some false) e = (refl, refl)
-may_begin [] (Some true) e = absurd (none-some misuse.Closed (sym e))
-may_begin [] None e = absurd (none-some misuse.NoInstance (sym e))
-may_begin (f ∷ fs) o e = absurd (none-some misuse.Busy (sym e))
 
 module _ (met_there : MetAreThere) (plan : Plan) (s : State) (top : Frame) (fs : List Frame) (ds : List Doing)
     (is : s.stack ≡ top ∷ fs) (valid : IsValidState plan s) (m : AllMatch plan (top ∷ fs) ds) (f : AreLent ds s.lends) where

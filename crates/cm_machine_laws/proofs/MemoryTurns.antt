@@ -15,14 +15,12 @@ use Rattle.cm_types.specs.Values.{HasType, Val}
 use Rattle.cm_layout.specs.Sizes.{align_of, size_of}
 use Rattle.cm_abi_model.specs.declared.encoding.StringEncoding.{StringEncoding}
 use Rattle.cm_abi_model.specs.declared.receiver.Receiver.{Receiver}
-use Rattle.cm_abi_model.specs.declared.record.PartRecord.{PartRecord}
 use Rattle.cm_abi_model.specs.declared.request.Request.{Request}
 use Rattle.cm_abi_model.specs.Answering.{HaveScalars, places_of}
 use Rattle.cm_abi_model.specs.Denotes.{Denotes}
 use Rattle.cm_abi_model.specs.Numbers.{slot_at}
 use Rattle.cm_abi_model.specs.Parts.{element_part, parts_in}
 use Rattle.cm_abi_model.specs.Receives.{call_bytes}
-use Rattle.cm_abi_model.specs.RecordRequests.{tags_of as tags_told}
 use Rattle.cm_abi_model.specs.Regions.{AllAt, IsInPart}
 use Rattle.cm_abi_model.specs.Requests.{call_parts, is_spilled, requests, stored_charset, tuple_of}
 use Rattle.cm_abi_model.specs.Stores.{Given}
@@ -33,7 +31,7 @@ use Rattle.cm_machine_model.specs.declared.frame.Call.{Call}
 use Rattle.cm_machine_model.specs.declared.frame.Frame.{Frame}
 use Rattle.cm_machine_model.specs.Cases.{HasPlace, IsPlaced, by_memory, in_values}
 use Rattle.cm_machine_model.specs.Passages.{Carries, HasAnswers, IsAnswered, asked_for}
-use Rattle.cm_machine_model.specs.Plan.{Link, Plan, giver_side, receiver_side}
+use Rattle.cm_machine_model.specs.Plan.{Link, Plan, receiver_side}
 use Rattle.cm_machine_model.specs.Plan.{types_of}
 use Rattle.cm_machine_model.specs.State.{Passage, State}
 use Rattle.cm_machine_model.specs.Step.{AreOf, IsHanded, giver_of, given_to, one_i32}
@@ -43,6 +41,8 @@ use Rattle.cm_machine_told.specs.MemoryChanges.{ChangesBytes, ChangesInside}
 use Rattle.cm_machine_told.specs.Told.{answers_in, one_answer}
 use Rattle.cm_machine_laws.specs.Following.{IsOneOpen}
 use Rattle.cm_machine_laws.proofs.Regions.{EachAsked, EndsExact, outside_stays}
+use Rattle.cm_machine_model.proofs.PassagesLaws.{asked_on}
+use Rattle.cm_lemmas.proofs.Lists.{length_push}
 
 -- ---- what is asked of the layers below
 
@@ -77,17 +77,6 @@ within (x ∷ rs) (suc n) r e = omega (arith, within rs n r e)
 pub no_places : (rs : List Request) → [] ≡ places_of rs []
 no_places [] = refl
 no_places (r ∷ rs) = refl
-
-length_push : (xs : List ℕ) (a : ℕ) → length (xs ++ a ∷ []) ≡ suc (length xs)
-length_push [] a = refl
-length_push (x ∷ xs) a = ap suc (length_push xs a)
-
--- the same is asked for once one more request is answered
-asked_on : (l : Link) (way : Way) (rs : List Request) (p : Passage) (a : ℕ) (q : Passage) (v : Val)
-    → IsAnswered rs p a q → asked_for l way q v ≡ asked_for l way p v
-asked_on l way rs p a q v is =
-    ap (λ (rs : List PartRecord). requests way (types_of l way) v (giver_side l way).encoding
-    (receiver_side l way).encoding (tags_told rs)) is.records
 
 -- ---- the latest answer, as it is told
 

@@ -1,6 +1,6 @@
 -- The rows of the resource built-ins, judged by the causes of their traps.
-use Rattle.std.proofs.Common.{◌≡◌, ℕ, zero, suc, ◌<◌, ◌≤◌, Bool, true, false, List, [], ◌∷◌, length, Option, Some, None, refl, sym, ap, subst, ◌∙◌, arith, if◌then◌else◌}
-use Rattle.std.specs.Prelude.{slice_get, Ok, Err, ◌&&◌, ◌==◌, unwrap_or}
+use Rattle.std.proofs.Common.{◌≡◌, ℕ, ◌<◌, ◌≤◌, Bool, true, false, List, [], ◌∷◌, length, Option, Some, None, refl, sym, ap, subst, ◌∙◌, arith, if◌then◌else◌}
+use Rattle.std.specs.Prelude.{slice_get, Ok, Err, ◌==◌, unwrap_or}
 use Rattle.std.proofs.Math.Nat.{lt_of_not-le}
 use Rattle.std.proofs.lemmas.Option.{none-some, same_Some}
 use Rattle.cm_types.specs.declared.core_value.CoreValue.{CoreValue}
@@ -24,6 +24,9 @@ use Rattle.cm_machine_model.specs.Step.{DropsFound, DropsHandle, DropsOwned, Dro
 use Rattle.cm_machine_told.specs.Causes.{DropCause, IsClosed, IsDestroyed, MakeCause, MayCall, TellCause}
 use Rattle.cm_machine_told.specs.Doing.{Doing}
 use Rattle.cm_machine_laws.proofs.Judging.{Judged, check, here, memory, next, passes}
+use Rattle.cm_lemmas.proofs.Numbers.{eq_of, not_zero}
+use Rattle.cm_lemmas.proofs.Bools.{true_is_not_false}
+use Rattle.cm_handles.proofs.HandlesLaws.{same_true, same_is}
 
 -- ---- whether an instance is open
 
@@ -66,36 +69,6 @@ resumes_not i values e is t eq = differ (sym is ∙ eq) where
 
 -- ---- resources
 
-and_parts : (a b : Bool) → (a && b) ≡ true → (a ≡ true) × (b ≡ true)
-and_parts true b e = (refl, e)
-and_parts false b e = absurd (cc)
-
-eq_nat : (a b : ℕ) → (a == b) ≡ true → a ≡ b
-eq_nat a b e = grind (arith, e)
-
-same_is : (a b : ResourceId) → is_same_resource a b ≡ true → a ≡ b
-same_is a b e =
-    let parts = and_parts (a.component == b.component) (a.number == b.number) e in
-    let one : a.component ≡ b.component = eq_nat a.component b.component parts.0 in
-    let two : a.number ≡ b.number = eq_nat a.number b.number parts.1 in
-    ap (λ (n : ℕ). record { component = n; number = a.number }) one ∙ ap (λ (n : ℕ). record { component = b.component; number = n }) two
-
-eq_true : (a b : ℕ) → a ≡ b → (a == b) ≡ true
-eq_true a b e = grind (arith, e)
-
-and_true : (a b : Bool) → a ≡ true → b ≡ true → (a && b) ≡ true
-and_true true b e f = f
-and_true false b e f = absurd (cc)
-
-is_same : (a b : ResourceId) → a ≡ b → is_same_resource a b ≡ true
-is_same a b e = and_true (a.component == b.component) (a.number == b.number)
-    (eq_true a.component b.component (ap (λ (r : ResourceId). r.component) e)) (eq_true a.number b.number (ap (λ (r : ResourceId). r.number) e))
-
-false_is : (b : Bool) → b ≡ false → b ≡ true → ⊥
-false_is b e f = differ (sym e ∙ f) where
-  differ : false ≡ true → ⊥
-  differ x = cc (x)
-
 -- ---- a representation
 
 tells_found : (s : State) (i : ℕ) (r : ResourceId) (args : List CoreValue) (e : Event) (new : State) (o : Option Handle) → handle_at (table_at s.tables i) (slot_at args 0) ≡ o
@@ -106,7 +79,7 @@ tells_found s i r args e new (Some h) is x =
     (by_resource (is_same_resource h.resource r) refl x) where
       by_resource : (b : Bool) → is_same_resource h.resource r ≡ b → TellsFound (if b then Ok h else Err handle_fault.WrongResource) s i e new
           → Judged (trap.WrongResource ∷ []) [] (TellCause s i r args) e
-      by_resource false other x = here [] [] (TellCause s i r args) e trap.WrongResource (h, is, λ same. false_is (is_same_resource h.resource r) other (is_same h.resource r same)) x.0
+      by_resource false other x = here [] [] (TellCause s i r args) e trap.WrongResource (h, is, λ same. true_is_not_false (is_same_resource h.resource r) other (same_true h.resource r same)) x.0
       by_resource true same x =
           next [] [] (TellCause s i r args) e trap.WrongResource
           (λ c. c.2 (ap (λ (g : Handle). g.resource) (same_Some c.0 h (sym c.1 ∙ is)) ∙ same_is h.resource r same))
@@ -132,12 +105,8 @@ makes_judged s ds top r args e new may_is is_may x =
 
 -- ---- a drop
 
-some_lends : (n : ℕ) → (n == 0) ≡ false → 0 < n
-some_lends zero e = absurd (cc)
-some_lends (suc n) e = omega arith
-
 no_lends : (n : ℕ) → (n == 0) ≡ true → 0 < n → ⊥
-no_lends n e lt = subst (λ (k : ℕ). 0 < k → ⊥) (sym (eq_nat n 0 e)) (λ x. absurd (omega (arith, x))) lt
+no_lends n e lt = subst (λ (k : ℕ). 0 < k → ⊥) (sym (eq_of n 0 e)) (λ x. absurd (omega (arith, x))) lt
 
 abbrev drop_behind : List Trap
 drop_behind = trap.CalleeClosed ∷ trap.StackFull ∷ []
@@ -183,7 +152,7 @@ drops_found s ds i r d args e new same (Some h) is x =
       by_lends : (b : Bool) → (h.lends == 0) ≡ b → h.resource ≡ r → DropsFound (if b then Ok h else Err handle_fault.StillLent) s i r d (slot_at args 0) e new
           → Judged (trap.StillLent ∷ drop_behind) [] (DropCause s ds i r d args) e
       by_lends false lent of x =
-          here drop_behind [] (DropCause s ds i r d args) e trap.StillLent (record { entry = h; stands = is; of_resource = of; lent = some_lends h.lends lent }) x.0
+          here drop_behind [] (DropCause s ds i r d args) e trap.StillLent (record { entry = h; stands = is; of_resource = of; lent = not_zero h.lends lent }) x.0
       by_lends true free of x =
           next drop_behind [] (DropCause s ds i r d args) e trap.StillLent
           (λ c. no_lends h.lends free (subst (λ (g : Handle). 0 < g.lends) (same_Some c.entry h (sym c.stands ∙ is)) c.lent))
@@ -191,7 +160,7 @@ drops_found s ds i r d args e new same (Some h) is x =
 
       by_resource : (b : Bool) → is_same_resource h.resource r ≡ b → DropsFound (if_not_lent (if b then Ok h else Err handle_fault.WrongResource)) s i r d (slot_at args 0) e new
           → Judged (trap.WrongResource ∷ trap.StillLent ∷ drop_behind) [] (DropCause s ds i r d args) e
-      by_resource false other x = here (trap.StillLent ∷ drop_behind) [] (DropCause s ds i r d args) e trap.WrongResource (h, is, λ same. false_is (is_same_resource h.resource r) other (is_same h.resource r same)) x.0
+      by_resource false other x = here (trap.StillLent ∷ drop_behind) [] (DropCause s ds i r d args) e trap.WrongResource (h, is, λ same. true_is_not_false (is_same_resource h.resource r) other (same_true h.resource r same)) x.0
       by_resource true of x =
           next (trap.StillLent ∷ drop_behind) [] (DropCause s ds i r d args) e trap.WrongResource
           (λ c. c.2 (ap (λ (g : Handle). g.resource) (same_Some c.0 h (sym c.1 ∙ is)) ∙ same_is h.resource r of))

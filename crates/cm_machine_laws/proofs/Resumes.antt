@@ -45,9 +45,10 @@ use Rattle.cm_machine_told.specs.Told.{is_by_memory, result_place_of}
 use Rattle.cm_machine_laws.specs.Following.{AreFollowed, IsKept}
 use Rattle.cm_machine_laws.proofs.Follow.{one_value}
 use Rattle.cm_machine_laws.proofs.FollowCases as cases
-use Rattle.cm_machine_laws.proofs.FollowAlong.{IsFollowedAlong, IsTold, StaysValid, earlier}
+use Rattle.cm_machine_laws.proofs.FollowAlong.{IsFollowedAlong, IsTold, StaysValid}
 use Rattle.cm_machine_laws.proofs.GivenBack.{ReceivedStays, received_after}
 use Rattle.cm_machine_laws.proofs.ValueTurns.{OneCarried}
+use Rattle.cm_machine_model.proofs.HistoryLaws.{earlier}
 
 -- what a return says that is answered by a resumption
 abbrev Back : State → Frame → List Doing → Move → Event → State → Type 0

@@ -19,6 +19,8 @@ use Rattle.cm_machine_model.specs.declared.frame.Lend.{Lend}
 use Rattle.cm_machine_model.specs.State.{table_at, tables_after_call, tables_after_unlend}
 use Rattle.cm_machine_told.specs.HandleChanges.{AreAdded, AreGone, StandsAdded, StayBut, index_of_added, indices_given}
 use Rattle.cm_machine_told.specs.HandleChanges.{unlent}
+use Rattle.cm_lemmas.proofs.Lists.{Contains-nil, set_past}
+use Rattle.cm_machine_model.proofs.StateLaws.{table_same}
 
 -- ---- what is asked of the layers below
 
@@ -40,12 +42,6 @@ set_length [] i x = refl
 set_length (y ∷ ys) zero x = refl
 set_length (y ∷ ys) (suc i) x = ap suc (set_length ys i x)
 
-pub get_set_same : {X : Type 0} (xs : List X) (i : ℕ) (x : X) → i < length xs
-    → slice_get (slice_set xs i x) i ≡ Some x
-get_set_same [] i x lt = absurd (omega (arith, lt))
-get_set_same (y ∷ ys) zero x lt = refl
-get_set_same (y ∷ ys) (suc i) x lt = get_set_same ys i x (omega (arith, lt))
-
 get_set_other : {X : Type 0} (xs : List X) (i j : ℕ) (x : X) → (j ≡ i → ⊥)
     → slice_get (slice_set xs i x) j ≡ slice_get xs j
 get_set_other [] i j x ne = refl
@@ -54,24 +50,12 @@ get_set_other (y ∷ ys) zero (suc j) x ne = refl
 get_set_other (y ∷ ys) (suc i) zero x ne = refl
 get_set_other (y ∷ ys) (suc i) (suc j) x ne = get_set_other ys i j x (λ e. ne (ap suc e))
 
-pub set_past : {X : Type 0} (xs : List X) (i : ℕ) (x : X) → length xs ≤ i → slice_set xs i x ≡ xs
-set_past [] i x le = refl
-set_past (y ∷ ys) zero x le = absurd (omega (arith, le))
-set_past (y ∷ ys) (suc i) x le = ap (λ zs. y ∷ zs) (set_past ys i x (omega (arith, le)))
-
-pub table_same : (ts : List Handles) (i : ℕ) (t : Handles) → i < length ts
-    → table_at (slice_set ts i t) i ≡ t
-table_same ts i t lt = ap (λ (o : Option Handles). unwrap_or o no_handles) (get_set_same ts i t lt)
-
 pub table_other : (ts : List Handles) (i j : ℕ) (t : Handles) → (j ≡ i → ⊥)
     → table_at (slice_set ts i t) j ≡ table_at ts j
 table_other ts i j t ne =
     ap (λ (o : Option Handles). unwrap_or o no_handles) (get_set_other ts i j t ne)
 
 -- ---- indices among some
-
-none_among : (i : ℕ) → Contains [] i → ⊥
-none_among i c = omega (arith, c.1)
 
 first_among : (n i : ℕ) (ns : List ℕ) → i ≡ n → Contains (n ∷ ns) i
 first_among n i ns e = (0, omega arith, sym e)
@@ -89,7 +73,7 @@ stays_both a b c is x y = record { stay = λ index not. y.stay index not ∙ x.s
 
 -- where all stays, all but these stays
 pub stays_but : (a b : Handles) (is : List ℕ) → StayBut a b [] → StayBut a b is
-stays_but a b is x = record { stay = λ index not. x.stay index (none_among index) }
+stays_but a b is x = record { stay = λ index not. x.stay index (Contains-nil index) }
 
 pub stays_as : (a b : Handles) → b ≡ a → StayBut a b []
 stays_as a b e = subst (λ (t : Handles). StayBut a t []) (sym e) (stays a [])
@@ -177,7 +161,7 @@ met_gone t ms handed index among = handed.gone index among
 -- nothing stands any longer where nothing stood, or only its lends were written
 pub gone_stays : (a b : Handles) (is : List ℕ) → StayBut a b [] → AreGone a is → AreGone b is
 gone_stays a b is x gone index among =
-    nothing (handle_at b index) (x.stay index (none_among index) ∙ ap (λ (o : Option Handle). option_map unlent o) (gone index among)) where
+    nothing (handle_at b index) (x.stay index (Contains-nil index) ∙ ap (λ (o : Option Handle). option_map unlent o) (gone index among)) where
       nothing : (o : Option Handle) → option_map unlent o ≡ None → o ≡ None
       nothing None e = refl
       nothing (Some h) e = absurd (differ e) where
@@ -238,7 +222,7 @@ apart_step adds to leaves index g rest t sound (Some h) room stands c = by c whe
 occupied_apart : Adds → (to : Receiver) (leaves : List HandleLeaf) (index : ℕ) (g : Handle)
     (t : Handles) → IsSoundHandles t → added_count to leaves ≤ indices_left t
     → handle_at t index ≡ Some g → Contains (indices_given to t leaves) index → ⊥
-occupied_apart adds to [] index g t sound room stands c = none_among index c
+occupied_apart adds to [] index g t sound room stands c = Contains-nil index c
 occupied_apart adds to (leaf ∷ leaves) index g t sound room stands c =
     apart_step adds to leaves index g
     (λ u s r st d. occupied_apart adds to leaves index g u s r st d) t sound (added_for to leaf)
@@ -278,7 +262,7 @@ given_added adds to (leaf ∷ leaves) t sound room =
 stands_on : (o : Option Handle) (index : ℕ) (a b : Handles) → StayBut a b []
     → StandsAdded o index a → StandsAdded o index b
 stands_on None index a b x y = tt
-stands_on (Some h) index a b x y = x.stay index (none_among index) ∙ y
+stands_on (Some h) index a b x y = x.stay index (Contains-nil index) ∙ y
 
 -- and still does where all stays
 pub added_stays : (to : Receiver) (leaves : List HandleLeaf) (t a b : Handles) → StayBut a b []

@@ -28,6 +28,7 @@ use Rattle.cm_machine_laws.proofs.ClosingRows.{closes_by}
 use Rattle.cm_machine_laws.proofs.Judging.{Judged, LacksMemory, named, refused}
 use Rattle.cm_machine_laws.proofs.Lifting.{Laws}
 use Rattle.cm_machine_laws.proofs.SimpleRows.{step_judged}
+use Rattle.cm_machine_model.proofs.HistoryLaws.{earlier}
 
 abbrev pub StaysValid : Type 0
 StaysValid = (plan : Plan) (pages : List ℕ) (h : List Occurrence) (s : State) → IsHistoryOf plan pages h s → IsValidState plan s
@@ -37,9 +38,6 @@ IsTold = (plan : Plan) (pages : List ℕ) (h : List Occurrence) (s : State) → 
 
 abbrev pub IsFollowedAlong : Type 0
 IsFollowedAlong = (plan : Plan) (pages : List ℕ) (h : List Occurrence) (s : State) → IsHistoryOf plan pages h s → AreFollowed s (doing plan h)
-
-earlier : (plan : Plan) (pages : List ℕ) (x : Occurrence) (h : List Occurrence) (s : State) → IsHistoryOf plan pages (x ∷ h) s → IsHistoryOf plan pages h x.before
-earlier plan pages x h s y = record { linked = y.linked; pages_fit = y.pages_fit; history = y.history.0 }
 
 no_memory : (plan : Plan) (s : State) (ds : List Doing) (i : ℕ) (m : Move) (e : Event) → LacksMemory (order_before plan ds i m) (Cause plan s ds i m) e → MayFindNoMemory plan s ds i m
 no_memory plan s ds i m e x = record { wants = x.wants; none_before = x.none }

@@ -6,44 +6,26 @@ use Rattle.std.proofs.lemmas.Option.{same_Some}
 use Rattle.cm_types.specs.declared.core_value.CoreValue.{CoreValue}
 use Rattle.cm_types.specs.Values.{Val}
 use Rattle.cm_abi_model.specs.declared.request.Request.{Request}
-use Rattle.cm_abi_model.specs.Denotes.{Denotes}
 use Rattle.cm_abi_model.specs.Numbers.{slot_at}
-use Rattle.cm_abi_model.specs.Requests.{call_parts, is_spilled, requests}
+use Rattle.cm_abi_model.specs.Requests.{is_spilled}
 use Rattle.cm_abi_model.specs.Views.{Way, results}
-use Rattle.cm_abi_model.specs.Telling.{TellAll}
-use Rattle.cm_abi_model.specs.declared.record.PartRecord.{PartRecord}
-use Rattle.cm_abi_model.specs.RecordRequests.{tags_of}
 use Rattle.cm_machine_model.specs.Memories.{memory_at}
 use Rattle.cm_machine_model.specs.declared.frame.Call.{Call}
 use Rattle.cm_machine_model.specs.declared.frame.Frame.{Frame}
 use Rattle.cm_machine_model.specs.Cases.{HasPlace, IsPlaced, by_memory, in_values}
 use Rattle.cm_machine_model.specs.Passages.{Carries, HasAnswers, IsAnswered, asked_for}
-use Rattle.cm_machine_model.specs.Plan.{Link, Plan, giver_side, receiver_side, types_of}
+use Rattle.cm_machine_model.specs.Plan.{Link, Plan, types_of}
 use Rattle.cm_machine_model.specs.State.{Passage, State}
 use Rattle.cm_machine_model.specs.Step.{giver_of}
-use Rattle.cm_machine_laws.proofs.Follow.{length_push, within}
+use Rattle.cm_machine_laws.proofs.Follow.{within}
+use Rattle.cm_machine_model.proofs.PassagesLaws.{asked_on, carried_by}
+use Rattle.cm_lemmas.proofs.Lists.{length_push}
 
 -- One passage carries one value.
 abbrev pub OneCarried : Type 0
 OneCarried = (memory : List ℕ) (l : Link) (way : Way) (p : Passage) (v u : Val) → Carries memory l way p v → Carries memory l way p u → v ≡ u
 
 -- ---- one more answer
-
--- the same value is on its way once one more request is answered
-pub carried_on : (memory : List ℕ) (l : Link) (way : Way) (rs : List Request) (p : Passage) (a : ℕ) (q : Passage) (v : Val) → IsAnswered rs p a q → Carries memory l way p v → Carries memory l way q v
-carried_on memory l way rs p a q v is c = record {
-  view = c.view;
-  memory_is = c.memory_is;
-  encoding_is = c.encoding_is;
-  denoted = subst (λ (xs : List CoreValue). Denotes c.view way (types_of l way) xs v) (sym is.slots) c.denoted;
-  handles = is.leaves ∙ c.handles;
-  starts = c.starts;
-  told = subst (λ (rs : List PartRecord). TellAll c.view (receiver_side l way).encoding rs (call_parts way (types_of l way) v) c.starts) (sym is.records) c.told;
-}
-
-pub asked_on : (l : Link) (way : Way) (rs : List Request) (p : Passage) (a : ℕ) (q : Passage) (v : Val) → IsAnswered rs p a q → asked_for l way q v ≡ asked_for l way p v
-asked_on l way rs p a q v is =
-    ap (λ (rs : List PartRecord). requests way (types_of l way) v (giver_side l way).encoding (receiver_side l way).encoding (tags_of rs)) is.records
 
 -- what an answer says of the value that is known to be on its way
 pub record IsTurn (memory : List ℕ) (k : Link) (way : Way) (rs : List Request) (mine : List ℕ) (a : ℕ) (p q : Passage) (v u : Val) (l : Link) (answers : List ℕ) : Type 0 where
@@ -65,7 +47,7 @@ turn one plan s top values way call l p v answers q pl k same o at_top u carried
   value_is = value_is;
   slots = ans.slots;
   leaves = ans.leaves;
-  carried = carried_on memory k way rs o a q u ans carried;
+  carried = carried_by memory k way rs o a q u ans carried;
   requests_are = requests_are;
   answered = ans.answers mine has;
   within = within rs (length mine) pl.request (subst (λ (n : ℕ). slice_get rs n ≡ Some pl.request) count (subst (λ (xs : List Request). slice_get xs (length answers) ≡ Some pl.request) rs_is pl.asked));
@@ -131,7 +113,7 @@ settled s l call p v _ _ _ place (by_memory r q spilled asked fine answered) at_
   has = answered.answers [] none;
   slots = answered.slots;
   leaves = answered.leaves;
-  carried = λ memory c. carried_on memory l results (asked_for l results p v) p call.result_at q v answered c;
+  carried = λ memory c. carried_by memory l results (asked_for l results p v) p call.result_at q v answered c;
   requests_are = asked_on l results (asked_for l results p v) p call.result_at q v answered;
   few = omega (arith, within (asked_for l results p v) 0 r asked);
   passage_is = refl;

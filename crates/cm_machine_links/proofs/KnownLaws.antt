@@ -18,6 +18,7 @@ use Rattle.cm_match_model.specs.Origins.{AreOrigins, LeadEarlier, Links, Table, 
 use Rattle.cm_match_model.specs.Serving.{IsSameFunc}
 use Rattle.cm_match_model.specs.Targets.{Target, targets_of}
 use Rattle.cm_machine_links.proofs.PlanLaws.{Known}
+use Rattle.cm_lemmas.proofs.Options.{some_in}
 
 -- the sections of a component
 section_at : (components : List (List SectionTree)) (k : ℕ) (s : Spaces) → AllByRecursion IsValid components → slice_get (map spaces_of components) k ≡ Some s
@@ -28,9 +29,6 @@ section_at (x ∷ xs) (suc k) s valid at = section_at xs k s valid.1 at
 
 nothing_prop : IsProp ⊥
 nothing_prop a b = absurd a
-
-some_in : {A : Type 0} {x y : A} → Some x ≡ Some y → x ≡ y
-some_in e = cc e
 
 -- what is merely found is found where an answer can be read off
 found_in : (o : Option Target) (c : ℕ) → ∥ ((t : Target) × (o ≡ Some t) × (t.component < c)) ∥₁ → (t : Target) × (o ≡ Some t) × (t.component < c)

@@ -1,6 +1,5 @@
 mod TypeFacts
 mod OptionFacts
-mod SeenLayouts
 mod PassingFacts
 mod TypesAt
 mod Counts

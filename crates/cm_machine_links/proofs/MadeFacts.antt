@@ -1,16 +1,14 @@
 -- What core functions of the code stand for, one by one.
-use Rattle.std.proofs.Common.{◌≡◌, ◌∙◌, ◌+◌, ◌<◌, ℕ, zero, suc, List, [], ◌∷◌, ◌++◌, length, map, take, get_or, true, Option, Some, None, is_some, refl, ap, sym, subst, arith, add-one, slice_get, option_and_then, Vec, Global}
-use Rattle.std.specs.Prelude.{unwrap_or}
+use Rattle.std.proofs.Common.{◌≡◌, ◌∙◌, ◌+◌, ◌<◌, ℕ, List, [], ◌∷◌, ◌++◌, length, map, take, get_or, true, Option, Some, None, is_some, refl, ap, sym, subst, arith, slice_get, option_and_then, Vec, Global}
 use Rattle.std.specs.List.{AllByRecursion}
 use Rattle.std.specs.Option.{option_map}
-use Rattle.std.proofs.lemmas.List.{length-map}
-use Rattle.std.proofs.lemmas.Option.{slice_get-map, slice_get_read}
+use Rattle.std.proofs.lemmas.Option.{slice_get_read}
 use Rattle.std.specs.declared.rc.Rc.{Rc}
 use Rattle.cm_types.specs.declared.resource.ResourceId.{ResourceId}
 use Rattle.cm_types.specs.Types.{FuncTy}
 use Rattle.cm_binary_model.specs.declared.canons.CanonOption.{CanonOption}
 use Rattle.cm_validate_model.specs.Definitions.{CoreExport, CoreFuncDef, guest, lowered, making, dropping, reading}
-use Rattle.cm_validate_model.specs.Spaces.{Spaces, spaces_of}
+use Rattle.cm_validate_model.specs.Spaces.{Spaces}
 use Rattle.cm_validate_model.specs.Valid.{IsValid}
 use Rattle.cm_validate_spaces.specs.Checked.{sections_in, spaces_in, funcs_in}
 use Rattle.cm_validate_spaces.specs.declared.checked.Checked.{Checked}
@@ -27,9 +25,9 @@ use Rattle.cm_machine_links.specs.declared.core_funcs.CoreFunc.{CoreFunc}
 use Rattle.cm_machine_links.specs.declared.core_funcs.CoreFunc.TheVariants as core_func
 use Rattle.cm_machine_parts.specs.declared.link.Link.{Link}
 use Rattle.cm_machine_parts.specs.declared.link.CallTypes.{CallTypes}
-
-some_in : {A : Type 0} {x y : A} → Some x ≡ Some y → x ≡ y
-some_in {x = x} e = ap (λ o. unwrap_or o x) e
+use Rattle.cm_lemmas.proofs.Lists.{long_enough, take_one}
+use Rattle.cm_match_serving.proofs.Rows.{set_at}
+use Rattle.cm_lemmas.proofs.Options.{some_in}
 
 -- ---- one core function
 
@@ -64,13 +62,6 @@ there_before f (Some x) h = refl
 
 -- ---- destructors
 
-mapped_twice : {A B C : Type 0} (f : A → B) (g : B → C) (o : Option A) → option_map g (option_map f o) ≡ option_map (λ x. g (f x)) o
-mapped_twice f g None = refl
-mapped_twice f g (Some x) = refl
-
-pub set_at : (cs : List Checked) (k : ℕ) → slice_get (set_of cs) k ≡ option_map spaces_in (slice_get cs k)
-set_at cs k = slice_get-map spaces_of (map sections_in cs) k ∙ ap (option_map spaces_of) (slice_get-map sections_in cs k) ∙ mapped_twice sections_in spaces_of (slice_get cs k)
-
 pub no_destructor : (cs : List Checked) (r : ResourceId) → slice_get cs r.component ≡ None → destructor_of (set_of cs) r ≡ None
 no_destructor cs r none =
     ap (λ (o : Option Spaces). option_and_then destructor_in (option_and_then (λ s. slice_get s.resources r.number) o)) (set_at cs r.component ∙ ap (option_map spaces_in) none)
@@ -81,23 +72,10 @@ destructor_by cs r x is =
 
 -- ---- lists
 
-pub item_at : {A : Type 0} (xs : List A) (i : ℕ) → i < length xs → (x : A) × (slice_get xs i ≡ Some x)
-item_at [] i lt = absurd (omega (arith, lt))
-item_at (x ∷ xs) zero lt = (x, refl)
-item_at (x ∷ xs) (suc i) lt = item_at xs i (omega (arith, lt))
-
-pub item_of : {A : Type 0} (P : A → Type 0) (xs : List A) (i : ℕ) (x : A) → AllByRecursion P xs → slice_get xs i ≡ Some x → P x
-item_of P [] i x h e = cc e
-item_of P (y ∷ xs) zero x h e = subst P (some_in e) h.0
-item_of P (y ∷ xs) (suc i) x h e = item_of P xs i x h.1 e
-
 -- ---- components
 
 pub component_at : (cs ds : List Checked) (i : ℕ) (x : Checked) → cs ≡ ds → i < length cs → x ≡ get_or cs i x → slice_get ds i ≡ Some x
 component_at cs ds i x same lt is = subst (λ (xs : List Checked). slice_get xs i ≡ Some x) same (slice_get_read cs (length cs) i x refl lt is)
-
-pub as_many_spaces : (cs : List Checked) → length (set_of cs) ≡ length cs
-as_many_spaces cs = length-map (map sections_in cs) spaces_of ∙ length-map cs sections_in
 
 pub mapped_more : (rows : List (Vec (Rc CallTypes Global) Global)) (row : Vec (Rc CallTypes Global) Global) → map (λ v. v.items) (rows ++ row ∷ []) ≡ map (λ v. v.items) rows ++ row.items ∷ []
 mapped_more [] row = refl
@@ -108,19 +86,6 @@ rows_more [] row = refl
 rows_more (r ∷ rows) row = ap (λ l. r.items ∷ l) (rows_more rows row)
 
 -- ---- one more
-
-take_one : {A : Type 0} (xs : List A) (i : ℕ) (x : A) → slice_get xs i ≡ Some x → take (i + 1) xs ≡ take i xs ++ x ∷ []
-take_one {A} xs i x is = rw add-one (at_suc xs i x is)
-  where
-    at_suc : (ys : List A) (k : ℕ) (y : A) → slice_get ys k ≡ Some y → take (suc k) ys ≡ take k ys ++ y ∷ []
-    at_suc [] k y e = absurd cc
-    at_suc (z ∷ ys) zero y e = let same : z ≡ y = cc in ap (λ (v : A). v ∷ []) same
-    at_suc (z ∷ ys) (suc k) y e = ap (λ (vs : List A). z ∷ vs) (at_suc ys k y e)
-
-long_enough : {A : Type 0} (xs : List A) (i : ℕ) (x : A) → slice_get xs i ≡ Some x → length (take i xs) ≡ i
-long_enough [] i x is = absurd cc
-long_enough (y ∷ xs) zero x is = refl
-long_enough (y ∷ xs) (suc i) x is = ap suc (long_enough xs i x is)
 
 pub one_more_stands : (set : List Spaces) (c : ℕ) (ds : List CoreFuncDef) (fs : List CoreFunc) (i : ℕ) (d : CoreFuncDef) (f : CoreFunc) → slice_get ds i ≡ Some d
     → Stands set c d f → AllStand set c (take i ds) fs → AllStand set c (take (i + 1) ds) (fs ++ f ∷ [])

@@ -1,6 +1,6 @@
 -- What the options of lifts and lowers say.
 use Rattle.std.proofs.Common.{inl, inr, ◌⊎◌, ◌≡◌, ◌∙◌, ◌+◌, ℕ, List, [], ◌∷◌, ◌++◌, drop, Bool, true, false, Option, Some, None, is_some, refl, ap, subst}
-use Rattle.std.specs.Prelude.{◌||◌, not, nat_lt, nat_le, unwrap_or}
+use Rattle.std.specs.Prelude.{◌||◌, not, nat_lt, nat_le}
 use Rattle.std.specs.List.{list_any}
 use Rattle.std.specs.Option.{option_or}
 use Rattle.std.proofs.lemmas.Bool.{leb-true, le-ltb}
@@ -9,13 +9,14 @@ use Rattle.cm_types.specs.Holds.{is_string}
 use Rattle.cm_binary_model.specs.declared.canons.CanonOption.{CanonOption}
 use Rattle.cm_binary_model.specs.declared.canons.CanonOption.TheVariants as option
 use Rattle.cm_abi_model.specs.Requests.{IsStored}
-use Rattle.cm_validate_model.specs.declared.fault.ValidReason.{ValidReason}
 use Rattle.cm_validate_model.specs.declared.fault.ValidReason.TheVariants as reason
 use Rattle.cm_validate_model.specs.Named.{AreOptionsThere, IsGuestAt}
 use Rattle.cm_validate_model.specs.Options.{is_latin1, is_pointer, is_realloc, latin1_broken, lift_type_broken, lower_type_broken, memory_use_broken, params_hold, params_need_memory, realloc_broken, result_holds}
-use Rattle.cm_validate_model.specs.Reasons.{unless}
 use Rattle.cm_validate_model.specs.Spaces.{Spaces}
 use Rattle.cm_machine_links.specs.Planning.{encoding_of, first_in, post_return_in, realloc_in}
+use Rattle.cm_validate_model.proofs.ReasonsLaws.{kept}
+use Rattle.cm_lemmas.proofs.Lists.{nil_front, nil_rest}
+use Rattle.cm_lemmas.proofs.Options.{some_in}
 
 -- ---- the first of a kind
 
@@ -47,16 +48,13 @@ stored_in (option.Memory i ∷ os) h = stored_in os h
 stored_in (option.Realloc f ∷ os) h = stored_in os h
 stored_in (option.PostReturn f ∷ os) h = stored_in os h
 
-same_some : {A : Type 0} {x y : A} → Some x ≡ Some y → x ≡ y
-same_some {x = x} e = ap (λ o. unwrap_or o x) e
-
 pub realloc_guest : (s : Spaces) (os : List CanonOption) (f : ℕ) → AreOptionsThere s os → first_in realloc_in os ≡ Some f → IsGuestAt s f
 realloc_guest s [] f h e = cc e
 realloc_guest s (option.Utf8 ∷ os) f h e = realloc_guest s os f h.1 e
 realloc_guest s (option.Utf16 ∷ os) f h e = realloc_guest s os f h.1 e
 realloc_guest s (option.Latin1Utf16 ∷ os) f h e = realloc_guest s os f h.1 e
 realloc_guest s (option.Memory i ∷ os) f h e = realloc_guest s os f h.1 e
-realloc_guest s (option.Realloc g ∷ os) f h e = subst (IsGuestAt s) (same_some e) h.0
+realloc_guest s (option.Realloc g ∷ os) f h e = subst (IsGuestAt s) (some_in e) h.0
 realloc_guest s (option.PostReturn g ∷ os) f h e = realloc_guest s os f h.1 e
 
 pub post_return_guest : (s : Spaces) (os : List CanonOption) (f : ℕ) → AreOptionsThere s os → first_in post_return_in os ≡ Some f → IsGuestAt s f
@@ -66,22 +64,9 @@ post_return_guest s (option.Utf16 ∷ os) f h e = post_return_guest s os f h.1 e
 post_return_guest s (option.Latin1Utf16 ∷ os) f h e = post_return_guest s os f h.1 e
 post_return_guest s (option.Memory i ∷ os) f h e = post_return_guest s os f h.1 e
 post_return_guest s (option.Realloc g ∷ os) f h e = post_return_guest s os f h.1 e
-post_return_guest s (option.PostReturn g ∷ os) f h e = subst (IsGuestAt s) (same_some e) h.0
+post_return_guest s (option.PostReturn g ∷ os) f h e = subst (IsGuestAt s) (some_in e) h.0
 
 -- ---- what types need
-
-pub nil_front : {A : Type 0} (xs ys : List A) → xs ++ ys ≡ [] → xs ≡ []
-nil_front [] ys h = refl
-nil_front (x ∷ xs) ys h = cc h
-
-pub nil_rest : {A : Type 0} (xs ys : List A) → xs ++ ys ≡ [] → ys ≡ []
-nil_rest [] ys h = h
-nil_rest (x ∷ xs) ys h = cc h
-
--- a rule that is not violated holds
-pub kept : (b : Bool) (r : ValidReason) → unless b r ≡ [] → b ≡ true
-kept true r h = refl
-kept false r h = cc h
 
 pub lift_realloc : (os : List CanonOption) (f : FuncTy) → lift_type_broken os f ≡ [] → (list_any is_realloc os || not (params_need_memory f)) ≡ true
 lift_realloc os f h =

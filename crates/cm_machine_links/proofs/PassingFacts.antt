@@ -1,5 +1,5 @@
 -- What functions pass, from layouts and kinds by place.
-use Rattle.std.proofs.Common.{◌≡◌, ◌∙◌, ◌+◌, ◌<◌, ◌≤◌, ℕ, zero, suc, List, [], ◌∷◌, ◌++◌, length, map, take, get_or, Bool, true, false, Option, Some, None, refl, ap, sym, subst, arith, Global}
+use Rattle.std.proofs.Common.{◌≡◌, ◌∙◌, ◌+◌, ◌<◌, ◌≤◌, ℕ, List, [], ◌∷◌, ◌++◌, length, map, take, get_or, Bool, true, false, Option, Some, None, refl, ap, sym, subst, arith, Global}
 use Rattle.std.specs.Prelude.{nat_lt, if◌then◌else◌}
 use Rattle.std.specs.List.{AllByRecursion}
 use Rattle.std.specs.Option.{option_map}
@@ -87,11 +87,6 @@ all_spelled (u ∷ ts) (field l t fs) e h = rw (ap is_spellable (first_is e) ∙
 
     rest_is : {x y : Ty} {xs ys : List Ty} → x ∷ xs ≡ y ∷ ys → xs ≡ ys
     rest_is h = cc h
-
-pub all_at : (P : ℕ → Type 0) (ps : List ℕ) (i : ℕ) → AllByRecursion P ps → i < length ps → P (get_or ps i 0)
-all_at P [] i h lt = absurd (omega (arith, lt))
-all_at P (p ∷ ps) zero h lt = h.0
-all_at P (p ∷ ps) (suc i) h lt = all_at P ps i h.1 (omega (arith, lt))
 
 pub spelled_of : (ts : List Ty) (fs : Fields) → field_types fs ≡ ts → AllByRecursion (λ t. is_spellable t ≡ true) ts → are_spellable fs ≡ true
 spelled_of = all_spelled

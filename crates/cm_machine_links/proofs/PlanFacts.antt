@@ -10,6 +10,7 @@ use Rattle.cm_machine_links.specs.Planned.{AreCoreFuncsOf, AreRowsOf, IsCoreFunc
 use Rattle.cm_machine_links.specs.Planning.{core_def_in, core_func_of}
 use Rattle.cm_machine_links.specs.Standing.{AllStand, EachStands, IsCoreSpelled, RowsStand, Stands}
 use Rattle.cm_machine_links.specs.declared.core_funcs.CoreFunc.{CoreFunc as CoreFunction}
+use Rattle.cm_lemmas.proofs.Lists.{got_at}
 
 -- ---- the plan
 
@@ -26,11 +27,6 @@ plan_of set = plan_from set 0 set
 pub as_many : (set : List Spaces) (c : ℕ) (ss : List Spaces) → length (plan_from set c ss) ≡ length ss
 as_many set c [] = refl
 as_many set c (s ∷ ss) = ap suc (as_many set (c + 1) ss)
-
-got : {A : Type 0} (P : A → Type 0) (xs : List A) (i : ℕ) (x : A) → AllByRecursion P xs → slice_get xs i ≡ Some x → P x
-got P [] i x h e = cc e
-got P (y ∷ xs) zero x h e = let same : y ≡ x = cc in subst P same h.0
-got P (y ∷ xs) (suc i) x h e = got P xs i x h.1 e
 
 some_value : (o : Option CoreFunc) → is_some o ≡ true → Some (unwrap_or o plan.guest) ≡ o
 some_value None h = cc h
@@ -61,7 +57,7 @@ each_from : (set : List Spaces) (c : ℕ) (ss : List Spaces) (k m f : ℕ) (d : 
 each_from set c [] k m f d e h at = cc at
 each_from set c (s ∷ ss) zero m f d e h at =
     let same : m ≡ c = omega (arith, e) in
-    subst (λ n. is_some (core_func_of set n d) ≡ true) (sym same) (got (λ d. is_some (core_func_of set c d) ≡ true) s.core_funcs f d h.0 at)
+    subst (λ n. is_some (core_func_of set n d) ≡ true) (sym same) (got_at (λ d. is_some (core_func_of set c d) ≡ true) s.core_funcs f d h.0 at)
 each_from set c (s ∷ ss) (suc k) m f d e h at = each_from set (c + 1) ss k m f d (omega (arith, e)) h.1 at
 
 pub each_stands : (set : List Spaces) (c f : ℕ) (d : CoreFuncDef) → EachStands set 0 set → core_def_in set c f ≡ Some d → is_some (core_func_of set c d) ≡ true

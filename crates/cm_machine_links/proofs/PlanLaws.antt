@@ -1,6 +1,6 @@
 -- The plan of a set that can be linked is one of the machine's.
-use Rattle.std.proofs.Common.{inl, inr, ◌⊎◌, ◌≡◌, ◌∙◌, ◌<◌, ◌≤◌, ℕ, zero, suc, List, [], ◌∷◌, length, Bool, true, false, Option, Some, None, is_some, refl, ap, sym, subst, arith, slice_get, option_and_then}
-use Rattle.std.specs.Prelude.{◌||◌, ◌&&◌, ◌≢◌, not, nat_le, nat_lt, unwrap_or, if◌then◌else◌}
+use Rattle.std.proofs.Common.{inl, inr, ◌⊎◌, ◌≡◌, ◌∙◌, ◌<◌, ◌≤◌, ℕ, List, [], ◌∷◌, length, Bool, true, false, Option, Some, None, is_some, refl, ap, sym, subst, arith, slice_get, option_and_then}
+use Rattle.std.specs.Prelude.{◌≢◌, not, nat_le, nat_lt, if◌then◌else◌}
 use Rattle.std.specs.List.{AllByRecursion, list_any}
 use Rattle.std.specs.Option.{option_map, option_map_or}
 use Rattle.std.proofs.Math.Bool.{Bool-set}
@@ -34,7 +34,10 @@ use Rattle.cm_machine_links.specs.Planning.{HaveOneType, IsPlanOf, core_def_in, 
 use Rattle.cm_machine_links.specs.Standing.{EachStands, IsCoreSpelled, IsSpelled}
 use Rattle.cm_machine_links.proofs.OptionFacts.{either, lift_latin1, lift_realloc, lower_latin1, lower_realloc, not_more, post_return_guest, realloc_guest, realloc_named, stored_in, stores}
 use Rattle.cm_machine_links.proofs.PlanFacts.{all_from, as_many, plan_of, planned_at, each_stands}
-use Rattle.cm_machine_links.proofs.TypeFacts.{no_parts, no_strings, none_borrowed, or_left, or_right}
+use Rattle.cm_machine_links.proofs.TypeFacts.{no_parts, no_strings, none_borrowed}
+use Rattle.cm_lemmas.proofs.Bools.{and_true, or_false, or_left, or_right}
+use Rattle.cm_lemmas.proofs.Lists.{got_at}
+use Rattle.cm_lemmas.proofs.Options.{some_in, stepped, still_some}
 
 -- What is known of the components of a set that can be linked.
 pub record Known (set : List Spaces) : Type 0 where
@@ -54,37 +57,13 @@ pub record Known (set : List Spaces) : Type 0 where
 
 -- ---- lists and options
 
-pub got : {A : Type 0} (P : A → Type 0) (xs : List A) (i : ℕ) (x : A) → AllByRecursion P xs → slice_get xs i ≡ Some x → P x
-got P [] i x h e = cc e
-got P (y ∷ xs) zero x h e = let same : y ≡ x = cc in subst P same h.0
-got P (y ∷ xs) (suc i) x h e = got P xs i x h.1 e
-
 both : {A : Type 0} (P Q R : A → Type 0) → ((x : A) → P x → Q x → R x) → (xs : List A) → AllByRecursion P xs → AllByRecursion Q xs → AllByRecursion R xs
 both P Q R f [] h k = tt
 both P Q R f (x ∷ xs) h k = (f x h.0 k.0, both P Q R f xs h.1 k.1)
 
-still_some : {A B : Type 0} (f : A → B) (o : Option A) → is_some o ≡ true → is_some (option_map f o) ≡ true
-still_some f None h = cc h
-still_some f (Some x) h = refl
-
-pub same_some : {A : Type 0} {x y : A} → Some x ≡ Some y → x ≡ y
-same_some {x = x} e = ap (λ o. unwrap_or o x) e
-
-stepped : {A B : Type 0} (o : Option A) (f : A → Option B) (y : B) → option_and_then f o ≡ Some y → (x : A) × (o ≡ Some x) × (f x ≡ Some y)
-stepped None f y h = cc h
-stepped (Some x) f y h = (x, refl, h)
-
 pub mapped : {A B : Type 0} (f : A → B) (o : Option A) (y : B) → option_map f o ≡ Some y → (x : A) × (o ≡ Some x) × (f x ≡ y)
 mapped f None y h = cc h
-mapped f (Some x) y h = (x, refl, same_some h)
-
-or_false : (b : Bool) → (b || false) ≡ b
-or_false true = refl
-or_false false = refl
-
-and_true : (b : Bool) → (b && true) ≡ b
-and_true true = refl
-and_true false = refl
+mapped f (Some x) y h = (x, refl, some_in h)
 
 -- ---- a result as fields
 
@@ -153,7 +132,7 @@ module _ (set : List Spaces) (k : Known set) where
   pub one_type : HaveOneType set
   one_type c f import item ty os t at to =
       let s = stepped (slice_get set c) (λ s. slice_get s.core_funcs f) (lowered import item ty os) at in
-      k.same c import s.0 item ty t s.1 (got (IsLoweredAsImported s.0) s.0.core_funcs f (lowered import item ty os) (k.wanted c s.0 s.1) s.2) to
+      k.same c import s.0 item ty t s.1 (got_at (IsLoweredAsImported s.0) s.0.core_funcs f (lowered import item ty os) (k.wanted c s.0 s.1) s.2) to
 
   -- ---- guests
 
@@ -175,7 +154,7 @@ module _ (set : List Spaces) (k : Known set) where
   destructor_by : (r : ResourceId) (s : Spaces) (d : ResourceDef) (o : Option ℕ) → slice_get set r.component ≡ Some s → IsResourceWhole s d → destructor_in d ≡ o → IsGuestIfAny (plan_of set) r.component o
   destructor_by r s d None at whole e = tt
   destructor_by r s (defined None) (Some f) at whole e = cc e
-  destructor_by r s (defined (Some g)) (Some f) at whole e = is_guest r.component f s at (subst (IsGuestAt s) (same_some e) whole)
+  destructor_by r s (defined (Some g)) (Some f) at whole e = is_guest r.component f s at (subst (IsGuestAt s) (some_in e) whole)
   destructor_by r s (brought i n) (Some f) at whole e = cc e
 
   destructor_runs : (r : ResourceId) (o : Option ℕ) → destructor_of set r ≡ o → IsGuestIfAny (plan_of set) r.component o
@@ -183,12 +162,12 @@ module _ (set : List Spaces) (k : Known set) where
   destructor_runs r (Some f) e =
       let d = stepped (definition_of set r) destructor_in f e in
       let s = stepped (slice_get set r.component) (λ s. slice_get s.resources r.number) d.0 d.1 in
-      destructor_by r s.0 d.0 (Some f) s.1 (got (IsResourceWhole s.0) s.0.resources r.number d.0 (k.resources r.component s.0 s.1) s.2) d.2
+      destructor_by r s.0 d.0 (Some f) s.1 (got_at (IsResourceWhole s.0) s.0.resources r.number d.0 (k.resources r.component s.0 s.1) s.2) d.2
 
   -- ---- resources
 
   made_here : (c n : ℕ) (s : Spaces) (d : Option ℕ) (r : ResourceId) → slice_get set c ≡ Some s → slice_get s.resources n ≡ Some (defined d) → origin_in set c n ≡ Some r → r.component ≡ c
-  made_here c n s d r at e o = ap (λ q. q.component) (same_some (sym o ∙ k.itself (resource_of c n) d (resource_there c n s (defined d) at e)))
+  made_here c n s d r at e o = ap (λ q. q.component) (some_in (sym o ∙ k.itself (resource_of c n) d (resource_there c n s (defined d) at e)))
 
   -- ---- links
 
@@ -292,23 +271,23 @@ module _ (set : List Spaces) (k : Known set) where
     module _ (spelled : (c f : ℕ) (d : CoreFuncDef) (p : CoreFunc) → core_def_in set c f ≡ Some d → core_func_of set c d ≡ Some p → IsCoreSpelled p) where
       core_is : (c f : ℕ) (s : Spaces) (d : CoreFuncDef) (p : CoreFunc) → slice_get set c ≡ Some s → slice_get s.core_funcs f ≡ Some d → core_def_in set c f ≡ Some d
           → core_func_of set c d ≡ Some p → IsCoreFunc (plan_of set) c p
-      core_is c f s (guest e) p at is here stands = subst (IsCoreFunc (plan_of set) c) (same_some stands) tt
+      core_is c f s (guest e) p at is here stands = subst (IsCoreFunc (plan_of set) c) (some_in stands) tt
       core_is c f s (lowered import item ty os) p at is here stands =
-          let whole = got (IsCoreWhole s) s.core_funcs f (lowered import item ty os) (k.cores c s at) is in
-          let wanted = got (IsLoweredAsImported s) s.core_funcs f (lowered import item ty os) (k.wanted c s at) is in
+          let whole = got_at (IsCoreWhole s) s.core_funcs f (lowered import item ty os) (k.cores c s at) is in
+          let wanted = got_at (IsLoweredAsImported s) s.core_funcs f (lowered import item ty os) (k.wanted c s at) is in
           let r = k.reach c import s item ty at wanted in
-          let p_is : plan.lowered (link_to set os r.0) ≡ p = same_some (sym (ap (option_map (λ t. plan.lowered (link_to set os t))) r.1) ∙ stands) in
+          let p_is : plan.lowered (link_to set os r.0) ≡ p = some_in (sym (ap (option_map (λ t. plan.lowered (link_to set os t))) r.1) ∙ stands) in
           let spell : IsCoreSpelled (plan.lowered (link_to set os r.0)) = subst IsCoreSpelled (sym p_is) (spelled c f (lowered import item ty os) p here stands) in
           subst (IsCoreFunc (plan_of set) c) p_is (is_link c import s item ty os r.0 at wanted r.1 whole r.2 spell)
       core_is c f s (making n) p at is here stands =
-          let whole = got (IsCoreWhole s) s.core_funcs f (making n) (k.cores c s at) is in
+          let whole = got_at (IsCoreWhole s) s.core_funcs f (making n) (k.cores c s at) is in
           let r = mapped plan.makes (origin_in set c n) p stands in
           subst (IsCoreFunc (plan_of set) c) r.2 (made_here c n s whole.0 r.0 at whole.1 r.1)
       core_is c f s (dropping n) p at is here stands =
           let r = mapped (λ r. plan.drops r (destructor_of set r)) (origin_in set c n) p stands in
           subst (IsCoreFunc (plan_of set) c) r.2 (record { earlier = k.earlier (resource_of c n) r.0 r.1; runs = destructor_runs r.0 (destructor_of set r.0) refl })
       core_is c f s (reading n) p at is here stands =
-          let whole = got (IsCoreWhole s) s.core_funcs f (reading n) (k.cores c s at) is in
+          let whole = got_at (IsCoreWhole s) s.core_funcs f (reading n) (k.cores c s at) is in
           let r = mapped plan.represents (origin_in set c n) p stands in
           subst (IsCoreFunc (plan_of set) c) r.2 (made_here c n s whole.0 r.0 at whole.1 r.1)
 

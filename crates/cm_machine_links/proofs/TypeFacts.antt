@@ -1,6 +1,5 @@
 -- What types without strings, lists or borrows pass.
-use Rattle.std.proofs.Common.{◌≡◌, ℕ, zero, suc, List, [], ◌∷◌, ◌++◌, Bool, true, false, refl}
-use Rattle.std.specs.Prelude.{◌||◌}
+use Rattle.std.proofs.Common.{◌≡◌, ℕ, zero, suc, List, [], ◌∷◌, ◌++◌, false, refl}
 use Rattle.cm_types.specs.Holds.{cases_hold, fields_hold, holds, is_borrow, is_string}
 use Rattle.cm_types.specs.Types.{Ty, Fields, Cases, bool, signed, unsigned, char, string, list, fixed_list, fields, cases, flags, own, borrow, no_fields, field, no_cases, plain, carrying}
 use Rattle.cm_types.specs.Values.{AllVals, HasType, HaveTypes, IsCarriedCase, Val, Vals, no_vals, val, truth, signed_number, number, scalar, text, elements, parts, bare, bearing, flag_set, handle}
@@ -9,14 +8,7 @@ use Rattle.cm_abi_model.specs.Receives.{HandleLeaf, borrowed_leaf, leaves_each, 
 use Rattle.cm_abi_model.specs.Requests.{CarryNoString, HasNoString, HaveNoString}
 use Rattle.cm_validate_model.specs.Options.{is_pointer}
 use Rattle.cm_machine_model.specs.Plans.{NoneBorrowed}
-
-pub or_left : (a b : Bool) → (a || b) ≡ false → a ≡ false
-or_left true b e = e
-or_left false b e = refl
-
-pub or_right : (a b : Bool) → (a || b) ≡ false → b ≡ false
-or_right true b e = cc e
-or_right false b e = e
+use Rattle.cm_lemmas.proofs.Bools.{or_left, or_right}
 
 nothing_both : {A : Type 0} (xs ys : List A) → xs ≡ [] → ys ≡ [] → xs ++ ys ≡ []
 nothing_both [] ys e f = f

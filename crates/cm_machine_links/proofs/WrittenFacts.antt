@@ -15,7 +15,7 @@ use Rattle.cm_validate_model.specs.Items.{Item, all_items, canon_item, type_item
 use Rattle.cm_validate_model.specs.Named.{IsCoreWhole, IsLiftWhole}
 use Rattle.cm_validate_model.specs.Options.{are_once, guest_broken, is_encoding, is_memory, is_once, is_post_return, is_realloc, lift_type_broken, no_post_return_broken, option_broken, options_broken}
 use Rattle.cm_validate_model.specs.Reasons.{found, if_found, unless}
-use Rattle.cm_validate_model.specs.Rules.{broken, func_ty_at, lowered_broken, type_index_broken}
+use Rattle.cm_validate_model.specs.Rules.{func_ty_at, lowered_broken, type_index_broken}
 use Rattle.cm_validate_model.specs.Sources.{IsAdded, IsCoreAdded, IsItemAt, OfFunctions, by_drop, by_import, by_item, by_lift, by_lower, by_new, by_rep, of_guest}
 use Rattle.cm_validate_model.specs.Spaces.{Spaces, empty_spaces, next_resource, spaces_of}
 use Rattle.cm_validate_model.specs.TypeRules.{has_sort}
@@ -28,8 +28,12 @@ use Rattle.cm_machine_model.specs.Plan as plan
 use Rattle.cm_machine_model.specs.Plan.{CoreFunc, Plan}
 use Rattle.cm_machine_links.specs.Planning.{IsPlanOf, core_def_in, core_func_of, destructor_in, destructor_of, encoding_in, encoding_of, first_in, link_to, origin_in, post_return_in, realloc_in, side_of}
 use Rattle.cm_machine_links.specs.Written.{IsCoreFuncWritten, IsDropWritten, IsLinkWritten, IsPlanWritten, WritesEncoding, WritesFunc, WritesSide, items_at, sections_at}
-use Rattle.cm_machine_links.proofs.OptionFacts.{kept, nil_front, nil_rest}
-use Rattle.cm_machine_links.proofs.PlanLaws.{got, mapped, same_some}
+use Rattle.cm_machine_links.proofs.PlanLaws.{mapped}
+use Rattle.cm_lemmas.proofs.Bools.{both_left, both_right}
+use Rattle.cm_lemmas.proofs.Lists.{got_at, in_head, nil_front, nil_rest, none_in}
+use Rattle.cm_validate_model.proofs.NamedLaws.{item_breaks_nothing}
+use Rattle.cm_validate_model.proofs.ReasonsLaws.{kept}
+use Rattle.cm_lemmas.proofs.Options.{some_in}
 
 -- ---- lists
 
@@ -40,22 +44,8 @@ in_tail y ys x c = at c.0 c.1 c.2
     at zero lt e = inl e
     at (suc k) lt e = inr (k, omega (arith, lt), e)
 
-head_in : {A : Type 0} (y : A) (ys : List A) → Contains (y ∷ ys) y
-head_in y ys = (0, omega arith, refl)
-
 more_in : {A : Type 0} (y : A) (ys : List A) (x : A) → Contains ys x → Contains (y ∷ ys) x
 more_in y ys x c = (suc c.0, omega (arith, c.1), c.2)
-
-none_in : {A : Type 0} (x : A) → Contains [] x → ⊥
-none_in x c = omega (arith, c.1)
-
-both_front : (a b : Bool) → (a && b) ≡ true → a ≡ true
-both_front true b h = refl
-both_front false b h = cc h
-
-both_rest : (a b : Bool) → (a && b) ≡ true → b ≡ true
-both_rest true b h = h
-both_rest false b h = cc h
 
 -- ---- one option of a kind
 
@@ -138,8 +128,8 @@ post_returns (option.PostReturn f) = refl
 in_utf8 : (os : List CanonOption) → (Contains os option.Utf16 → ⊥) → (Contains os option.Latin1Utf16 → ⊥) → encoding_of os ≡ encoding.Utf8
 in_utf8 [] h k = refl
 in_utf8 (option.Utf8 ∷ os) h k = refl
-in_utf8 (option.Utf16 ∷ os) h k = absurd (h (head_in option.Utf16 os))
-in_utf8 (option.Latin1Utf16 ∷ os) h k = absurd (k (head_in option.Latin1Utf16 os))
+in_utf8 (option.Utf16 ∷ os) h k = absurd (h (in_head option.Utf16 os))
+in_utf8 (option.Latin1Utf16 ∷ os) h k = absurd (k (in_head option.Latin1Utf16 os))
 in_utf8 (option.Memory i ∷ os) h k = in_utf8 os (λ c. h (more_in (option.Memory i) os option.Utf16 c)) (λ c. k (more_in (option.Memory i) os option.Latin1Utf16 c))
 in_utf8 (option.Realloc f ∷ os) h k = in_utf8 os (λ c. h (more_in (option.Realloc f) os option.Utf16 c)) (λ c. k (more_in (option.Realloc f) os option.Latin1Utf16 c))
 in_utf8 (option.PostReturn f ∷ os) h k = in_utf8 os (λ c. h (more_in (option.PostReturn f) os option.Utf16 c)) (λ c. k (more_in (option.PostReturn f) os option.Latin1Utf16 c))
@@ -150,7 +140,7 @@ no_realloc (option.Utf8 ∷ os) h = no_realloc os (λ f c. h f (more_in option.U
 no_realloc (option.Utf16 ∷ os) h = no_realloc os (λ f c. h f (more_in option.Utf16 os (option.Realloc f) c))
 no_realloc (option.Latin1Utf16 ∷ os) h = no_realloc os (λ f c. h f (more_in option.Latin1Utf16 os (option.Realloc f) c))
 no_realloc (option.Memory i ∷ os) h = no_realloc os (λ f c. h f (more_in (option.Memory i) os (option.Realloc f) c))
-no_realloc (option.Realloc g ∷ os) h = absurd (h g (head_in (option.Realloc g) os))
+no_realloc (option.Realloc g ∷ os) h = absurd (h g (in_head (option.Realloc g) os))
 no_realloc (option.PostReturn g ∷ os) h = no_realloc os (λ f c. h f (more_in (option.PostReturn g) os (option.Realloc f) c))
 
 no_post_return : (os : List CanonOption) → ((f : ℕ) → Contains os (option.PostReturn f) → ⊥) → first_in post_return_in os ≡ None
@@ -160,20 +150,20 @@ no_post_return (option.Utf16 ∷ os) h = no_post_return os (λ f c. h f (more_in
 no_post_return (option.Latin1Utf16 ∷ os) h = no_post_return os (λ f c. h f (more_in option.Latin1Utf16 os (option.PostReturn f) c))
 no_post_return (option.Memory i ∷ os) h = no_post_return os (λ f c. h f (more_in (option.Memory i) os (option.PostReturn f) c))
 no_post_return (option.Realloc g ∷ os) h = no_post_return os (λ f c. h f (more_in (option.Realloc g) os (option.PostReturn f) c))
-no_post_return (option.PostReturn g ∷ os) h = absurd (h g (head_in (option.PostReturn g) os))
+no_post_return (option.PostReturn g ∷ os) h = absurd (h g (in_head (option.PostReturn g) os))
 
 module _ (os : List CanonOption) (once : are_once os ≡ true) where
   memories_once : ((is_once is_encoding os && is_once is_memory os) && is_once is_realloc os) ≡ true
-  memories_once = both_front ((is_once is_encoding os && is_once is_memory os) && is_once is_realloc os) (is_once is_post_return os) once
+  memories_once = both_left ((is_once is_encoding os && is_once is_memory os) && is_once is_realloc os) (is_once is_post_return os) once
 
   encodings_once : is_once is_encoding os ≡ true
-  encodings_once = both_front (is_once is_encoding os) (is_once is_memory os) (both_front (is_once is_encoding os && is_once is_memory os) (is_once is_realloc os) memories_once)
+  encodings_once = both_left (is_once is_encoding os) (is_once is_memory os) (both_left (is_once is_encoding os && is_once is_memory os) (is_once is_realloc os) memories_once)
 
   reallocs_once : is_once is_realloc os ≡ true
-  reallocs_once = both_rest (is_once is_encoding os && is_once is_memory os) (is_once is_realloc os) memories_once
+  reallocs_once = both_right (is_once is_encoding os && is_once is_memory os) (is_once is_realloc os) memories_once
 
   post_returns_once : is_once is_post_return os ≡ true
-  post_returns_once = both_rest ((is_once is_encoding os && is_once is_memory os) && is_once is_realloc os) (is_once is_post_return os) once
+  post_returns_once = both_right ((is_once is_encoding os && is_once is_memory os) && is_once is_realloc os) (is_once is_post_return os) once
 
   encoded : (o : CanonOption) → Contains os o → is_encoding o ≡ true → first_in encoding_in os ≡ encoding_in o
   encoded o c h = the_one is_encoding encoding_in encodings os o (once_few is_encoding os encodings_once) c h
@@ -203,9 +193,6 @@ module _ (os : List CanonOption) (once : are_once os ≡ true) where
 
 -- ---- options of valid definitions
 
-item_whole : (items : List Item) (s : Spaces) (x : Item) → IsValidFrom empty_spaces items → IsItemAt items s x → broken s x ≡ []
-item_whole items s x valid at = subst (λ v. broken v x ≡ []) at.spaces (valid at.front x at.rest at.split)
-
 options_once : (s : Spaces) (os : List CanonOption) → options_broken s os ≡ [] → are_once os ≡ true
 options_once s os h = kept (are_once os) reason.OptionTwice (nil_rest (flat_map (option_broken s) os) (unless (are_once os) reason.OptionTwice) h)
 
@@ -226,7 +213,7 @@ module _ (items : List Item) (valid : IsValidFrom empty_spaces items) where
       let func = guest_broken s.core_funcs f in
       let index = type_index_broken s (has_sort sort.Func) i in
       let none : ((guest_broken s.core_funcs f ++ type_index_broken s (has_sort sort.Func) i) ++ options_broken s os) ++ if_found (lift_type_broken os) (func_ty_at s i) ≡ [] =
-      item_whole items s (canon_item (lift f os i)) valid at in
+      item_breaks_nothing items s (canon_item (lift f os i)) valid at in
       options_once s os (nil_rest (func ++ index) (options_broken s os) (nil_front ((func ++ index) ++ options_broken s os) (if_found (lift_type_broken os) (func_ty_at s i)) none))
   lift_once _ (by_import s i ty at e) = tt {0}
   lift_once _ (by_item s i t n x f at e g d) = tt {0}
@@ -236,7 +223,7 @@ module _ (items : List Item) (valid : IsValidFrom empty_spaces items) where
   lower_once _ (by_lower s f os import item ty at e) =
       let func = found (lowered_broken os) (slice_get s.funcs f) in
       let none : (found (lowered_broken os) (slice_get s.funcs f) ++ options_broken s os) ++ no_post_return_broken os ≡ [] =
-      item_whole items s (canon_item (lower f os)) valid at in
+      item_breaks_nothing items s (canon_item (lower f os)) valid at in
       options_once s os (nil_rest func (options_broken s os) (nil_front (func ++ options_broken s os) (no_post_return_broken os) none))
   lower_once _ (by_new s i n at e) = tt {0}
   lower_once _ (by_drop s i n at e) = tt {0}
@@ -290,11 +277,11 @@ module _ (components : List (List SectionTree)) (valid : AllByRecursion IsValid 
     core_def_at c f = at_index (λ (s : Spaces). s.core_funcs) refl components c f
 
     added_at : (c f : ℕ) (d : CoreFuncDef) → slice_get (core_funcs_at c) f ≡ Some d → IsCoreAdded (items_at components c) d
-    added_at c f d at = got (IsCoreAdded (items_at components c)) (core_funcs_at c) f d (added (sections_at components c)).core_funcs at
+    added_at c f d at = got_at (IsCoreAdded (items_at components c)) (core_funcs_at c) f d (added (sections_at components c)).core_funcs at
 
     whole_at : (c f : ℕ) (d : CoreFuncDef) → slice_get (core_funcs_at c) f ≡ Some d → IsCoreWhole (spaces_of (sections_at components c)) d
     whole_at c f d at =
-        got (IsCoreWhole (spaces_of (sections_at components c))) (core_funcs_at c) f d (whole (sections_at components c) (valid_at components c valid)).core_funcs at
+        got_at (IsCoreWhole (spaces_of (sections_at components c))) (core_funcs_at c) f d (whole (sections_at components c) (valid_at components c valid)).core_funcs at
 
     own_resource : (c n : ℕ) (d : Option ℕ) → slice_get (spaces_of (sections_at components c)).resources n ≡ Some (defined d) → origin_in set c n ≡ Some (resource_of c n)
     own_resource c n d at = itself set (links_of set) (origin_of set (links_of set)) (one set (links_of set) (lead set)) (resource_of c n) d (defined_at c n ∙ at)
@@ -332,19 +319,19 @@ module _ (components : List (List SectionTree)) (valid : AllByRecursion IsValid 
 
     is_written : (c f : ℕ) (d : CoreFuncDef) → slice_get (core_funcs_at c) f ≡ Some d → IsCoreWhole (spaces_of (sections_at components c)) d → IsLowerOnce d
         → (x : CoreFunc) → core_func_of set c d ≡ Some x → IsCoreFuncWritten components c d x
-    is_written c f (guest e) at h once x is = subst (IsCoreFuncWritten components c (guest e)) (same_some is) tt
+    is_written c f (guest e) at h once x is = subst (IsCoreFuncWritten components c (guest e)) (some_in is) tt
     is_written c f (lowered import item ty os) at h once x is =
         let t = mapped (λ t. plan.lowered (link_to set os t)) (targets_of set (links_of set) c import item) x is in
         subst (IsCoreFuncWritten components c (lowered import item ty os)) t.2 (link_written c import item os t.0 once t.1)
     is_written c f (making n) at h once x is =
         let r = mapped plan.makes (origin_in set c n) x is in
-        subst (IsCoreFuncWritten components c (making n)) r.2 (same_some (sym r.1 ∙ own_resource c n h.0 h.1))
+        subst (IsCoreFuncWritten components c (making n)) r.2 (some_in (sym r.1 ∙ own_resource c n h.0 h.1))
     is_written c f (dropping n) at h once x is =
         let r = mapped (λ r. plan.drops r (destructor_of set r)) (origin_in set c n) x is in
         subst (IsCoreFuncWritten components c (dropping n)) r.2 (drop_written c n r.0 r.1)
     is_written c f (reading n) at h once x is =
         let r = mapped plan.represents (origin_in set c n) x is in
-        subst (IsCoreFuncWritten components c (reading n)) r.2 (same_some (sym r.1 ∙ own_resource c n h.0 h.1))
+        subst (IsCoreFuncWritten components c (reading n)) r.2 (some_in (sym r.1 ∙ own_resource c n h.0 h.1))
 
     pub written : (p : Plan) → IsPlanOf set p → IsPlanWritten components p
     written p k = record {

@@ -8,7 +8,9 @@ use Rattle.cm_handles.specs.Handles.{Handles, TableState, after_close, borrows_f
 use Rattle.cm_machine_model.specs.State.{table_at}
 use Rattle.cm_machine_parts.specs.Closing.{AreClosed}
 use Rattle.cm_machine_parts.specs.States.{handles_in}
-use Rattle.cm_machine_parts.proofs.Tables.{handles_set, set_past, set_same_table, table_in, table_same, table_other}
+use Rattle.cm_machine_parts.proofs.Tables.{handles_set, table_in}
+use Rattle.cm_lemmas.proofs.Lists.{set_past}
+use Rattle.cm_machine_model.proofs.StateLaws.{set_same, table_other, table_same}
 
 -- ---- twice
 
@@ -54,7 +56,7 @@ close_past tables i le = sym (set_past tables i (after_close (table_at tables i)
 
 -- nor where it was closed before
 pub close_done : (done : List Bool) (tables : List Handles) (i : ℕ) → AreClosed done tables → slice_index_or done i false ≡ true → tables ≡ closed_at tables i
-close_done done tables i closed mark = sym (ap (λ (t : Handles). slice_set tables i t) (closed i mark) ∙ set_same_table tables i)
+close_done done tables i closed mark = sym (ap (λ (t : Handles). slice_set tables i t) (closed i mark) ∙ set_same tables i)
 
 pub close_here : (ts : List TableState) (i : ℕ) (old new : TableState) → i < length ts → old ≡ get_or ts i old → new.handles ≡ after_close old.handles → handles_in (slice_set ts i new) ≡ closed_at (handles_in ts) i
 close_here ts i old new lt is closed =

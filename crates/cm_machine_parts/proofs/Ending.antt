@@ -1,8 +1,7 @@
 -- The state as a frame goes.
-use Rattle.std.proofs.Common.{◌≡◌, ◌≢◌, ℕ, zero, suc, ◌+◌, ◌-◌, ◌<◌, ◌≤◌, ◌⊎◌, inl, inr, Bool, true, false, List, [], ◌∷◌, ◌++◌, length, take, drop, Option, Some, None, refl, sym, ap, subst, ◌∙◌, arith}
+use Rattle.std.proofs.Common.{◌≡◌, ◌≢◌, ℕ, zero, suc, ◌+◌, ◌-◌, ◌<◌, ◌≤◌, ◌⊎◌, Bool, true, false, List, [], ◌∷◌, ◌++◌, length, take, drop, Option, Some, None, refl, sym, ap, subst, ◌∙◌, arith}
 use Rattle.std.specs.Prelude.{slice_index, ◌==◌, if◌then◌else◌, Contains}
-use Rattle.std.proofs.lemmas.Bool.{cases_eq, ne_eqb}
-use Rattle.std.proofs.lemmas.Option.{none-some}
+use Rattle.std.proofs.lemmas.Bool.{ne_eqb}
 use Rattle.cm_handles.specs.Borrows.{borrows_of}
 use Rattle.cm_handles.specs.Handles.{Handles, after_unlend}
 use Rattle.cm_abi_model.specs.Views.{params, results}
@@ -21,17 +20,9 @@ use Rattle.cm_machine_model.specs.Valid.{AreToCalls, IsStack, StandsOn, frame_at
 use Rattle.cm_machine_parts.specs.declared.passing.Passing.{Passing}
 use Rattle.cm_machine_parts.specs.Kept.{AreBorrowsCounted, IsEncodedAtTop, IsEncodedFor, IsEncodedIn}
 use Rattle.cm_machine_parts.specs.Lends.{NoneAbove}
+use Rattle.cm_machine_model.proofs.ValidLaws.{frame_within}
 
 -- ---- places of frames
-
-pub frame_within : (fs : List Frame) (n : ℕ) (f : Frame) → frame_at fs n ≡ Some f → n < length fs
-frame_within [] n f e = absurd (none-some f e)
-frame_within (g ∷ fs) n f e = elim (cases_eq n (length fs)) as (λ r. n < length (g ∷ fs)) [
-  | inl same ↦ omega (arith, same)
-  | inr ne ↦
-      let is : frame_at fs n ≡ Some f = sym (ap (λ (b : Bool). if b then Some g else frame_at fs n) (ne_eqb n (length fs) ne)) ∙ e in
-      omega (arith, frame_within fs n f is)
-]
 
 -- a frame below stands where it stood
 pub frame_below : (fs : List Frame) (n : ℕ) (f : Frame) → frame_at (below_top fs) n ≡ Some f → frame_at fs n ≡ Some f

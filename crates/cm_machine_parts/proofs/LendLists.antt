@@ -3,17 +3,22 @@ use Rattle.std.proofs.Common.{◌≡◌, ◌≢◌, ℕ, zero, suc, ◌+◌, ◌
 use Rattle.std.specs.Prelude.{slice_get, slice_set, Contains, ◌==◌, ◌&&◌, not, if◌then◌else◌, IsSomeAnd}
 use Rattle.std.specs.Option.{option_map}
 use Rattle.std.proofs.lemmas.Bool.{cases_eq, cases_lt, eq-eqb, ne_eqb, eqb-true}
-use Rattle.std.proofs.lemmas.List.{get_or-set_same, get_or-set_other, get_or_past, length-set, length-drop, take_all}
+use Rattle.std.proofs.lemmas.List.{get_or-set_other, length-drop, take_all}
 use Rattle.std.proofs.lemmas.Option.{none-some, same_Some, slice_get_within, get_or_from_slice_get}
 use Rattle.cm_handles.specs.declared.handle.Handle.{Handle}
 use Rattle.cm_handles.specs.Borrows.{borrows_of}
-use Rattle.cm_handles.specs.Handles.{Handles, TableState, handle_at, no_handles, after_change, after_unlend, with_lends}
+use Rattle.cm_handles.specs.Handles.{Handles, TableState, handle_at, after_unlend, with_lends}
 use Rattle.cm_machine_model.specs.declared.frame.Lend.{Lend}
 use Rattle.cm_machine_model.specs.Owning.{AreCounted, count_lends, standing}
 use Rattle.cm_machine_model.specs.State.{State, table_at, tables_after_unlend, tables_after_call, lends_after_call, lends_to}
 use Rattle.cm_machine_parts.specs.Lends.{NeverFall, NoneAbove, lends_at, AreLentAtLeast, tables_after_unlends}
 use Rattle.cm_machine_parts.specs.States.{handles_in}
-use Rattle.cm_machine_parts.proofs.Tables.{handles_set, table_in, table_same, table_other, set_past}
+use Rattle.cm_machine_parts.proofs.Tables.{handles_set, table_in}
+use Rattle.cm_handles.proofs.HandlesLaws.{at_change, none_there}
+use Rattle.cm_lemmas.proofs.Numbers.{hit_both}
+use Rattle.cm_lemmas.proofs.Bools.{hit_by}
+use Rattle.cm_lemmas.proofs.Lists.{set_past}
+use Rattle.cm_machine_model.proofs.StateLaws.{table_other, table_past, table_same}
 
 -- ---- in order
 
@@ -131,15 +136,6 @@ tables_unlent (l ∷ ls) (suc n) frame tables before behind =
 
 -- ---- what is lent
 
-none_there : (k : ℕ) → handle_at no_handles k ≡ None
-none_there zero = refl
-none_there (suc k) = refl
-
-table_past : (tables : List Handles) (i : ℕ) → length tables ≤ i → table_at tables i ≡ no_handles
-table_past [] i le = refl
-table_past (t ∷ ts) zero le = absurd (omega (arith, le))
-table_past (t ∷ ts) (suc i) le = table_past ts i (omega (arith, le))
-
 -- where a handle is lent there is a table
 pub lent_inside : (tables : List Handles) (i k : ℕ) → 0 < lends_at (handle_at (table_at tables i) k) → i < length tables
 lent_inside tables i k lent = elim (cases_lt i (length tables)) as (λ r. i < length tables) [
@@ -153,11 +149,6 @@ pub stands_lent : (o : Option Handle) → 0 < lends_at o → IsSomeAnd o (λ h. 
 stands_lent None lt = absurd (omega (arith, lt))
 stands_lent (Some h) lt = lt
 
-hit_both : (a b : Bool) → a ≡ true → b ≡ true → ◌≡◌ {A = ℕ} (if a && b then 1 else 0) 1
-hit_both true true e f = refl
-hit_both true false e f = absurd (cc (f))
-hit_both false b e f = absurd (cc (e))
-
 abbrev hits : Lend → ℕ → ℕ → ℕ
 hits l i k = if (l.instance == i) && (l.index == k) then 1 else 0
 
@@ -168,14 +159,6 @@ first_lent l ls tables h =
     omega (arith, h l.instance l.index, one)
 
 -- ---- one of them ends
-
-at_change : (t : Handles) (i : ℕ) (f : Handle → Handle) → handle_at (after_change t i f) i ≡ option_map f (handle_at t i)
-at_change t i f = elim (cases_lt i (length t.slots)) as (λ r. handle_at (after_change t i f) i ≡ option_map f (handle_at t i)) [
-  | inl lt ↦ get_or-set_same t.slots i (option_map f (handle_at t i)) None lt
-  | inr le ↦
-      let old : handle_at t i ≡ None = get_or_past t.slots i None le in
-      get_or_past (slice_set t.slots i (option_map f (handle_at t i))) i None (omega (arith, length-set t.slots i (option_map f (handle_at t i)), le)) ∙ sym (ap (λ (o : Option Handle). option_map f o) old)
-]
 
 once_less : (o : Option Handle) → lends_at (option_map (λ h. with_lends (h.lends - 1) h) o) ≡ lends_at o - 1
 once_less None = refl
@@ -235,11 +218,6 @@ count_behind i k zero [] = omega arith
 count_behind i k (suc n) [] = omega arith
 count_behind i k zero (l ∷ ls) = omega arith
 count_behind i k (suc n) (l ∷ ls) = omega (arith, count_behind i k n ls)
-
-hit_by : (a b : Bool) → 0 < (if a && b then 1 else 0) → (a ≡ true) × (b ≡ true)
-hit_by true true lt = (refl, refl)
-hit_by true false lt = absurd (omega (arith, lt))
-hit_by false b lt = absurd (omega (arith, lt))
 
 -- what is counted is there
 counted_one : (i k : ℕ) (ls : List Lend) → 0 < count_lends i k ls → (l : Lend) × Contains ls l × (l.instance ≡ i) × (l.index ≡ k)

@@ -2,6 +2,7 @@ mod LendLists
 mod TopCalls
 mod Mapping
 mod Closing
-mod Standing
+pub mod Standing
 mod Ending
-mod Tables
+pub mod Tables
+pub mod RowsLaws

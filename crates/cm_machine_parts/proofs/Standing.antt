@@ -10,33 +10,20 @@ use Rattle.cm_handles.specs.declared.handle.HandleKind.TheVariants as kind
 use Rattle.cm_handles.specs.Handles.{Handles, TableState, handle_at}
 use Rattle.cm_machine_model.specs.declared.frame.Call.{Call}
 use Rattle.cm_machine_model.specs.declared.frame.Frame.{Frame}
-use Rattle.cm_machine_model.specs.declared.frame.Phase.{Phase}
-use Rattle.cm_machine_model.specs.declared.frame.Phase.TheVariants as phase
-use Rattle.cm_machine_model.specs.declared.frame.Purpose.{Purpose}
 use Rattle.cm_machine_model.specs.declared.frame.Purpose.TheVariants as purpose
 use Rattle.cm_machine_model.specs.Plan.{Plan}
-use Rattle.cm_machine_model.specs.Stack.{actor, actor_in, actor_of, top_of}
+use Rattle.cm_machine_model.specs.Stack.{actor, top_of}
 use Rattle.cm_machine_model.specs.State.{State, table_at}
-use Rattle.cm_machine_model.specs.Valid.{IsStack, IsValidState, StandsOn, frame_at}
+use Rattle.cm_machine_model.specs.Valid.{IsStack, IsValidState, frame_at}
 use Rattle.cm_machine_parts.specs.Kept.{AreBorrowsCounted}
 use Rattle.cm_machine_parts.specs.States.{handles_in}
-use Rattle.cm_machine_parts.proofs.Ending.{frame_within}
-use Rattle.cm_machine_parts.proofs.Tables.{set_past, table_in, table_other, table_same}
+use Rattle.cm_machine_parts.proofs.Tables.{table_in}
+use Rattle.cm_machine_model.proofs.StackLaws.{acts_for}
+use Rattle.cm_machine_model.proofs.ValidLaws.{frame_within}
+use Rattle.cm_lemmas.proofs.Lists.{set_past}
+use Rattle.cm_machine_model.proofs.StateLaws.{table_other, table_same}
 
 -- ---- who acts
-
-acts_in : (p : Phase) (instance caller n : ℕ) → instance < n → caller < n → actor_in p instance caller < n
-acts_in phase.Arguments instance caller n lt lc = lt
-acts_in phase.Body instance caller n lt lc = lt
-acts_in phase.Results instance caller n lt lc = lc
-acts_in (phase.PostReturn result) instance caller n lt lc = lt
-
-acts_for : (plan : Plan) (p : Purpose) (instance : ℕ) (fs : List Frame) → instance < length plan → StandsOn plan p instance fs → ((f : Frame) → top_of fs ≡ Some f → actor f < length plan) → actor_of p instance < length plan
-acts_for plan purpose.Root instance fs lt stands below = lt
-acts_for plan (purpose.Call call) instance fs lt stands below =
-    let f : Frame = stands.1.0 in
-    acts_in call.phase instance call.caller (length plan) lt (omega (arith, below f stands.1.1, stands.1.2))
-acts_for plan (purpose.Destructor dropper) instance fs lt stands below = lt
 
 pub acts : (plan : Plan) (fs : List Frame) (top : Frame) → IsStack plan fs → top_of fs ≡ Some top → actor top < length plan
 acts plan [] top stack is = absurd (none-some top is)

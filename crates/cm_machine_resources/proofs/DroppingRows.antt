@@ -14,8 +14,6 @@ use Rattle.cm_machine_model.specs.declared.event.Trap.{Trap}
 use Rattle.cm_machine_model.specs.declared.event.Trap.TheVariants as trap
 use Rattle.cm_machine_model.specs.declared.frame.Frame.{Frame}
 use Rattle.cm_machine_model.specs.declared.frame.Purpose.TheVariants as purpose
-use Rattle.cm_machine_parts.specs.declared.outcome.Outcome.{Outcome}
-use Rattle.cm_machine_parts.specs.Rows.{MeetsRow, event_of}
 use Rattle.cm_machine_model.specs.Rows.{at}
 use Rattle.cm_machine_model.specs.Stack.{actor}
 use Rattle.cm_machine_model.specs.State.{State, after_trap, table_at}
@@ -78,8 +76,3 @@ drop_borrowed_at s top r d args index h call i values new acts are leaves is the
     at (Drops s top r d args) (event.Resume i values) (event.Resume (actor top) []) new new
     (ap (λ j. event.Resume j values) acts ∙ ap (λ (vs : List CoreValue). event.Resume (actor top) vs) none) refl
     (drop_borrowed_row s top r d args index h call new are leaves is (found_in s top i index r (Ok h) acts there) borrowed (after ∙ ap (λ j. without_handle s j index) acts))
-
--- a row that is another's too
-pub meets_by : (Q R : Event → State → Type 0) (result : Result Outcome Trap) (values : List CoreValue) (new : State) → ((e : Event) (x : State) → Q e x → R e x) → MeetsRow Q result values new → MeetsRow R result values new
-meets_by Q R (Ok o) values new step row = step (event_of o values) new row
-meets_by Q R (Err t) values new step row = step (event.Trapped t) (after_trap new) row

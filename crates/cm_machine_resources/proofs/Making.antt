@@ -1,5 +1,5 @@
 -- The row of a resource that is made.
-use Rattle.std.proofs.Common.{arith, ◌+◌, ◌≡◌, ℕ, zero, suc, ◌<◌, ◌⊎◌, inl, inr, List, [], ◌∷◌, ◌++◌, length, Result, Ok, Err, refl, sym, ap, subst, ◌∙◌}
+use Rattle.std.proofs.Common.{arith, ◌+◌, ◌≡◌, ℕ, ◌<◌, ◌⊎◌, inl, inr, List, [], ◌∷◌, ◌++◌, length, Result, Ok, Err, refl, sym, ap, subst, ◌∙◌}
 use Rattle.std.specs.Prelude.{slice_set}
 use Rattle.cm_types.specs.declared.core_value.CoreValue.{CoreValue}
 use Rattle.cm_types.specs.declared.core_value.CoreValue.TheVariants as core_value
@@ -20,15 +20,11 @@ use Rattle.cm_machine_model.specs.Stack.{actor}
 use Rattle.cm_machine_model.specs.State.{State, after_trap, table_at}
 use Rattle.cm_machine_model.specs.Step.{AreOf, CanMake, Makes, MayLeave, after_new, one_i32}
 use Rattle.cm_machine_resources.specs.Adding.{AddsResource, HasRoomFor, MakesNone, new_handle}
+use Rattle.cm_machine_model.proofs.StateLaws.{set_same}
 
 -- the state with another table of an instance and other owners
 abbrev pub with_parts : State → ℕ → Handles → List Place → State
 with_parts s i table owners = record s { tables = slice_set s.tables i table; owners = owners }
-
-set_same : (tables : List Handles) (i : ℕ) → slice_set tables i (table_at tables i) ≡ tables
-set_same [] i = refl
-set_same (t ∷ ts) zero = refl
-set_same (t ∷ ts) (suc i) = ap (λ xs. t ∷ xs) (set_same ts i)
 
 -- nothing changed
 unchanged : (s : State) (i : ℕ) (table : Handles) (owners : List Place) → table ≡ table_at s.tables i → owners ≡ s.owners → with_parts s i table owners ≡ s

@@ -15,10 +15,7 @@ use Rattle.cm_machine_model.specs.Stack.{below_top, top_of}
 use Rattle.cm_machine_model.specs.State.{State}
 use Rattle.cm_machine_model.specs.Step.{Step}
 use Rattle.cm_machine_model.specs.Valid.{IsStack, StandsOn}
-
-some_stand : (fs : List Frame) (f : Frame) → top_of fs ≡ Some f → 0 < length fs
-some_stand [] f e = absurd (none-some f e)
-some_stand (g ∷ fs) f e = omega arith
+use Rattle.cm_machine_model.proofs.StackLaws.{some_stand}
 
 -- what stands on a frame that is not a root
 abbrev Stands : Purpose → List Frame → Type 0

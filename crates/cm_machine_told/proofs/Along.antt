@@ -1,35 +1,22 @@
 -- Why frames are what goes on, and who acts is told, along each history.
-use Rattle.std.proofs.Common.{◌≡◌, ℕ, Bool, true, false, List, [], ◌∷◌, length, Option, Some, None, refl, sym, subst}
+use Rattle.std.proofs.Common.{ℕ, List, [], ◌∷◌, length, Option, None, refl, sym, subst}
 use Rattle.std.specs.Prelude.{slice_get}
 use Rattle.std.specs.Option.{option_map}
-use Rattle.std.proofs.lemmas.Option.{none-some}
 use Rattle.cm_machine_model.specs.declared.event.Event.{Event}
 use Rattle.cm_machine_model.specs.declared.event.Event.TheVariants as event
-use Rattle.cm_machine_model.specs.declared.event.Misuse.TheVariants as misuse
-use Rattle.cm_machine_model.specs.declared.frame.Frame.{Frame}
 use Rattle.cm_machine_model.specs.History.{Action, Happens, IsHistory, IsHistoryOf, Occurrence, begins, moves}
 use Rattle.cm_machine_model.specs.Plan.{Plan}
-use Rattle.cm_machine_model.specs.Run.{after_begin, misuse_by_closed, misuse_by_stack}
+use Rattle.cm_machine_model.specs.Run.{after_begin}
 use Rattle.cm_machine_model.specs.State.{State, fresh_state}
 use Rattle.cm_machine_model.specs.Valid.{IsValidState}
 use Rattle.cm_machine_told.specs.Acting.{acts, acts_after}
 use Rattle.cm_machine_told.specs.Doing.{Doing, doing, goes_on, root}
 use Rattle.cm_machine_told.specs.Matching.{AreTold, StepsTell}
+use Rattle.cm_machine_model.proofs.HistoryLaws.{earlier}
 
 -- The machine is valid along each history.
 abbrev pub StaysValid : Type 0
 StaysValid = (plan : Plan) (pages : List ℕ) (h : List Occurrence) (s : State) → IsHistoryOf plan pages h s → IsValidState plan s
-
--- a begin that is accepted
-pub may_begin : (fs : List Frame) (o : Option Bool) → misuse_by_stack fs (misuse_by_closed o) ≡ None → (fs ≡ []) × (o ≡ Some false)
-may_begin [] (Some false) e = (refl, refl)
-may_begin [] (Some true) e = absurd (none-some misuse.Closed (sym e))
-may_begin [] None e = absurd (none-some misuse.NoInstance (sym e))
-may_begin (f ∷ fs) o e = absurd (none-some misuse.Busy (sym e))
-
--- the history without its latest occurrence
-pub earlier : (plan : Plan) (pages : List ℕ) (x : Occurrence) (h : List Occurrence) (s : State) → IsHistoryOf plan pages (x ∷ h) s → IsHistoryOf plan pages h x.before
-earlier plan pages x h s y = record { linked = y.linked; pages_fit = y.pages_fit; history = y.history.0 }
 
 acted : StepsTell → (plan : Plan) (a : Action) (e : Event) (st new : State) (acting : Option ℕ) (ds : List Doing) → IsValidState plan st → AreTold plan st acting ds → Happens plan st a e new
     → AreTold plan new (acts_after e acting) (goes_on plan acting st a e ds)

@@ -6,7 +6,7 @@ use Rattle.std.specs.Option.{option_map}
 use Rattle.std.proofs.lemmas.Bool.{and_parts, eqb-true, true≢false}
 use Rattle.std.proofs.lemmas.List.{length-replicate}
 use Rattle.std.proofs.lemmas.Option.{none-some, same_Some}
-use Rattle.cm_handles.specs.Handles.{Handles, handle_at, no_handles}
+use Rattle.cm_handles.specs.Handles.{Handles, handle_at}
 use Rattle.cm_machine_model.specs.declared.event.Event.{Event}
 use Rattle.cm_machine_model.specs.declared.event.Event.TheVariants as event
 use Rattle.cm_machine_model.specs.declared.limits.TheConstants.{MAX_FRAMES, MAX_PAGES, PAGE_SIZE}
@@ -23,7 +23,7 @@ use Rattle.cm_machine_model.specs.Plan.{Link, Plan}
 use Rattle.cm_machine_model.specs.Events.{is_last}
 use Rattle.cm_machine_model.specs.Run.{Run, misuse_by_closed, misuse_by_stack}
 use Rattle.cm_machine_model.specs.Stack.{actor, below_top, top_of}
-use Rattle.cm_machine_model.specs.State.{Passage, State, fresh_state, table_at, zeros}
+use Rattle.cm_machine_model.specs.State.{Passage, State, fresh_state, zeros}
 use Rattle.cm_machine_model.specs.Valid.{IsStack, IsValidState}
 use Rattle.cm_machine_told.specs.Acting.{acts, acts_after}
 use Rattle.cm_machine_told.specs.Always.{Always}
@@ -32,8 +32,13 @@ use Rattle.cm_machine_told.specs.Causes.{MayCall}
 use Rattle.cm_machine_told.specs.Doing.{Doing, doing, goes_on, instance_of, root}
 use Rattle.cm_machine_told.specs.Going.{ActsAsTold, BeginsByCall, BeginsWhereNothingGoesOn, ClosesByTraps, EndsWhereNothingGoesOn, IsMisuseOf, NoneClosedActs, RefusesBegins, RunsExtend, StandsAsTold, StartsAlways, StartsWithWhatWasAskedFor}
 use Rattle.cm_machine_told.specs.Matching.{AllMatch, AreTold, StepsAnswer}
-use Rattle.cm_machine_told.proofs.Along.{StaysValid, earlier, may_begin}
+use Rattle.cm_machine_told.proofs.Along.{StaysValid}
 use Rattle.cm_machine_told.specs.Frames.{actor_stands, frame_there, instances, match_length, may_call, none_match, none_stand, one_instance, open_at, told_open}
+use Rattle.cm_machine_model.proofs.HistoryLaws.{earlier}
+use Rattle.cm_machine_model.proofs.RunLaws.{may_begin}
+use Rattle.cm_handles.proofs.HandlesLaws.{none_there}
+use Rattle.cm_machine_model.proofs.StateLaws.{table_none}
+use Rattle.cm_lemmas.proofs.Numbers.{zero_at}
 
 -- Frames are what goes on along each history.
 abbrev pub IsTold : Type 0
@@ -297,11 +302,6 @@ memory_of [] i count e = absurd (none-some count e)
 memory_of (p ∷ ps) zero count e = length-replicate {A = ℕ} (p * PAGE_SIZE) 0 ∙ ap (λ n. n * PAGE_SIZE) (same_Some p count e)
 memory_of (p ∷ ps) (suc i) count e = memory_of ps i count e
 
-zero_at : (n a : ℕ) → slice_index (replicate n 0) a ≡ 0
-zero_at zero a = refl
-zero_at (suc n) zero = refl
-zero_at (suc n) (suc a) = zero_at n a
-
 zero_in : (pages : List ℕ) (i a : ℕ) → slice_index (memory_at (map zeros pages) i) a ≡ 0
 zero_in [] i a = refl
 zero_in (p ∷ ps) zero a = zero_at (p * PAGE_SIZE) a
@@ -311,15 +311,6 @@ all_open : (n i : ℕ) → i < n → slice_get (replicate n false) i ≡ Some fa
 all_open zero i lt = absurd (omega (arith, lt))
 all_open (suc n) zero lt = refl
 all_open (suc n) (suc i) lt = all_open n i (omega (arith, lt))
-
-table_none : (n i : ℕ) → table_at (replicate n no_handles) i ≡ no_handles
-table_none zero i = refl
-table_none (suc n) zero = refl
-table_none (suc n) (suc i) = table_none n i
-
-none_at : (index : ℕ) → handle_at no_handles index ≡ None
-none_at zero = refl
-none_at (suc index) = refl
 
 inside : (xs : List ℕ) (i n : ℕ) → slice_get xs i ≡ Some n → i < length xs
 inside [] i n e = absurd (none-some n e)
@@ -335,7 +326,7 @@ starts plan pages s y =
         size = memory_of pages i count is;
         zeros = λ a. zero_in pages i a;
         is_open = all_open n i (omega (arith, inside pages i count is, counts));
-        no_handle = λ index. ap (λ (t : Handles). handle_at t index) (table_none n i) ∙ none_at index;
+        no_handle = λ index. ap (λ (t : Handles). handle_at t index) (table_none n i) ∙ none_there index;
       },
       refl,
       refl,

@@ -14,10 +14,12 @@ use Rattle.cm_machine_model.specs.Plan.{Plan, lowered}
 use Rattle.cm_machine_model.specs.Plans.{IsLink, IsPlan}
 use Rattle.cm_machine_model.specs.State.{State}
 use Rattle.cm_machine_model.specs.Valid.{IsStack, IsValidState, StandsOn, frame_at}
-use Rattle.cm_machine_valid.proofs.Lending.{counts_of, one_counted, none_there, table_past}
+use Rattle.cm_machine_valid.proofs.Lending.{counts_of, one_counted}
 use Rattle.cm_machine_valid.proofs.LendKeeps.{call_of, frame_pop}
 use Rattle.cm_machine_valid.proofs.LendsValid.{from_valid}
 use Rattle.cm_machine_valid.proofs.StepLends.{H}
+use Rattle.cm_handles.proofs.HandlesLaws.{none_there}
+use Rattle.cm_machine_model.proofs.StateLaws.{table_past}
 
 -- who is called stands before who calls
 earlier : (plan : Plan) (fs : List Frame) (place i : ℕ) (c : Call) → IsPlan plan → IsStack plan fs → frame_at fs place ≡ Some (record { instance = i; purpose = purpose.Call c }) → i < c.caller

@@ -21,7 +21,8 @@ use Rattle.cm_abi_model.specs.HandleLeaves.{owned_in}
 use Rattle.cm_machine_model.specs.State.{table_at}
 use Rattle.cm_machine_model.specs.Step.{owners_given}
 use Rattle.cm_machine_valid.proofs.OnePlaces.{giving}
-use Rattle.cm_machine_valid.proofs.LiftPlaces.{changed_in, moved_in, table_back, table_same}
+use Rattle.cm_machine_valid.proofs.LiftPlaces.{changed_in, moved_in}
+use Rattle.cm_machine_model.proofs.StateLaws.{set_same, table_same}
 
 pub borrowing : (at new : Standing) (owner : Owners) (frame : ℕ) (away : List ℕ) (i index call : ℕ) (h : Handle)
     → HaveOnePlace at owner frame away → at i index ≡ None → h.kind ≡ handle.Borrowed call
@@ -95,4 +96,4 @@ pub giving_all : AddingIsFine → (tables : List Handles) (owners : List Place) 
     → HaveOnePlace (standing (slice_set tables to.instance (after_given to (table_at tables to.instance) leaves))) (owners_of (owners_given to.instance leaves (numbers_given to (table_at tables to.instance) leaves) owners)) frame []
 giving_all fine tables owners frame to leaves p lt sound room =
     giving_in tables frame to fine leaves (table_at tables to.instance) owners
-    (subst (λ (ts : List Handles). HaveOnePlace (standing ts) (owners_of owners) frame (serials (owned_in leaves))) (sym (table_back tables to.instance)) p) lt sound room
+    (subst (λ (ts : List Handles). HaveOnePlace (standing ts) (owners_of owners) frame (serials (owned_in leaves))) (sym (set_same tables to.instance)) p) lt sound room

@@ -1,32 +1,23 @@
 -- Why a machine is valid along each history.
-use Rattle.std.proofs.Common.{◌≡◌, ℕ, Bool, true, false, List, [], ◌∷◌, length, Option, Some, None, refl, sym, subst}
+use Rattle.std.proofs.Common.{◌≡◌, ℕ, true, false, List, [], ◌∷◌, length, Some, sym, subst}
 use Rattle.std.specs.Prelude.{slice_get}
-use Rattle.std.proofs.lemmas.Option.{none-some}
 use Rattle.cm_machine_model.specs.declared.event.Event.{Event}
 use Rattle.cm_machine_model.specs.declared.event.Misuse.{Misuse}
-use Rattle.cm_machine_model.specs.declared.event.Misuse.TheVariants as misuse
 use Rattle.cm_machine_model.specs.declared.moves.Move.{Move}
-use Rattle.cm_machine_model.specs.declared.frame.Frame.{Frame}
 use Rattle.cm_machine_model.specs.History.{Action, Happens, IsHistory, IsHistoryOf, Occurrence, WritesBytes, begins, moves}
 use Rattle.cm_machine_model.specs.Plan.{Plan}
 use Rattle.cm_machine_model.specs.Plans.{IsPlan}
-use Rattle.cm_machine_model.specs.Run.{after_begin, misuse_by_closed, misuse_by_stack}
+use Rattle.cm_machine_model.specs.Run.{after_begin}
 use Rattle.cm_machine_model.specs.State.{State, are_page_counts, fresh_state}
 use Rattle.cm_machine_model.specs.Step.{Step}
 use Rattle.cm_machine_model.specs.Valid.{IsValidState}
+use Rattle.cm_machine_model.proofs.RunLaws.{may_begin}
 
 -- The machine starts valid and stays so.
 pub record Keeps : Type 0 where
   pub fresh : (plan : Plan) (pages : List ℕ) → IsPlan plan → are_page_counts (length plan) pages ≡ true → IsValidState plan (fresh_state (length plan) pages)
   pub begun : (plan : Plan) (s : State) (i : ℕ) → IsValidState plan s → s.stack ≡ [] → slice_get s.closed i ≡ Some false → IsValidState plan (after_begin s i)
   pub stays : (plan : Plan) (s : State) (m : Move) (e : Event) (new : State) → IsValidState plan s → WritesBytes m → Step plan s m e new → IsValidState plan new
-
--- a begin that is accepted
-may_begin : (fs : List Frame) (o : Option Bool) → misuse_by_stack fs (misuse_by_closed o) ≡ None → (fs ≡ []) × (o ≡ Some false)
-may_begin [] (Some false) e = (refl, refl)
-may_begin [] (Some true) e = absurd (none-some misuse.Closed (sym e))
-may_begin [] None e = absurd (none-some misuse.NoInstance (sym e))
-may_begin (f ∷ fs) o e = absurd (none-some misuse.Busy (sym e))
 
 acted : Keeps → (plan : Plan) (a : Action) (e : Event) (st new : State) → IsValidState plan st → Happens plan st a e new → IsValidState plan new
 acted k plan (begins i) e st new valid x =

@@ -1,5 +1,5 @@
 -- What traps, ends of calls, new and dropped resources leave of places.
-use Rattle.std.proofs.Common.{◌≡◌, ◌≢◌, ℕ, zero, suc, ◌-◌, ◌<◌, ◌≤◌, inl, inr, Bool, true, false}
+use Rattle.std.proofs.Common.{◌≡◌, ◌≢◌, ℕ, zero, suc, ◌-◌, ◌<◌, inl, inr, Bool, true, false}
 use Rattle.std.proofs.Common.{List, [], ◌∷◌, ◌++◌, length, map, get_or, Option, Some, None, refl}
 use Rattle.std.proofs.Common.{sym, ap, subst, ◌∙◌, arith}
 use Rattle.std.specs.Prelude.{slice_get, slice_set, ◌==◌, if◌then◌else◌}
@@ -26,8 +26,9 @@ use Rattle.cm_machine_model.specs.State.{tables_after_call, tables_after_trap, t
 use Rattle.cm_machine_valid.proofs.OwningLaws.{AddingIsFine, ChangesAt, MovesTo}
 use Rattle.cm_types.specs.declared.resource.ResourceId.{ResourceId}
 use Rattle.cm_machine_valid.proofs.OnePlaces.{place_of_owned}
-use Rattle.cm_machine_valid.proofs.LiftPlaces.{changed_in, moved_in, released, table_back}
-use Rattle.cm_machine_valid.proofs.LiftPlaces.{table_other, table_same}
+use Rattle.cm_machine_valid.proofs.LiftPlaces.{changed_in, moved_in, released}
+use Rattle.cm_lemmas.proofs.Lists.{get_last, set_past}
+use Rattle.cm_machine_model.proofs.StateLaws.{set_same, table_other, table_same}
 
 -- places depend on the owned handles alone, and on no frame where nothing is on its way
 pub same_owned : (at new : Standing) (owner : Owners) (frame : ℕ) (away : List ℕ) → HaveOnePlace at owner frame away
@@ -56,11 +57,6 @@ pub record OwnSame (t new : Handles) : Type 0 where
       → (e : Handle) × (handle_at new k ≡ Some e) × (e.kind ≡ handle.Owned) × (e.serial ≡ h.serial)
   pub back : (k : ℕ) (h : Handle) → handle_at new k ≡ Some h → h.kind ≡ handle.Owned
       → (e : Handle) × (handle_at t k ≡ Some e) × (e.kind ≡ handle.Owned) × (e.serial ≡ h.serial)
-
-pub slice_set_past : {X : Type 0} (xs : List X) (i : ℕ) (x : X) → length xs ≤ i → slice_set xs i x ≡ xs
-slice_set_past [] i x le = refl
-slice_set_past (y ∷ ys) zero x le = absurd (omega (arith, le))
-slice_set_past (y ∷ ys) (suc i) x le = ap (λ zs. y ∷ zs) (slice_set_past ys i x (omega (arith, le)))
 
 replaced_there : (tables : List Handles) (j : ℕ) (new : Handles) → OwnSame (table_at tables j) new → j < length tables → (n i k : ℕ)
     → Owns (standing tables) n i k → Owns (standing (slice_set tables j new)) n i k
@@ -94,7 +90,7 @@ pub replaced : (tables : List Handles) (j : ℕ) (new : Handles) (owner : Owners
     → HaveOnePlace (standing tables) owner frame away → HaveOnePlace (standing (slice_set tables j new)) owner frame away
 replaced tables j new owner frame away same p = elim (cases_lt j (length tables)) as (λ r. HaveOnePlace (standing (slice_set tables j new)) owner frame away) [
   | inl lt ↦ same_owned (standing tables) (standing (slice_set tables j new)) owner frame away p (replaced_there tables j new same lt) (replaced_back tables j new same lt)
-  | inr le ↦ subst (λ (ts : List Handles). HaveOnePlace (standing ts) owner frame away) (sym (slice_set_past tables j new le)) p
+  | inr le ↦ subst (λ (ts : List Handles). HaveOnePlace (standing ts) owner frame away) (sym (set_past tables j new le)) p
 ]
 
 -- ---- a table closes
@@ -161,7 +157,7 @@ unlending t i = elim (cases_lt i (length t.slots)) as (λ r. OwnSame t (after_un
     there = λ k h stands owned. let e = unlent_there t i k h lt stands in (e.0, e.1, e.2 ∙ owned, e.3);
     back = λ k h stands owned. let e = unlent_back t i k h lt stands in (e.0, e.1, e.2 ∙ owned, e.3);
   }
-  | inr le ↦ subst (λ (xs : List (Option Handle)). OwnSame t (record { slots = xs; freed = t.freed })) (sym (slice_set_past t.slots i (option_map (λ (x : Handle). with_lends (x.lends - 1) x) (handle_at t i)) le)) (same_table t)
+  | inr le ↦ subst (λ (xs : List (Option Handle)). OwnSame t (record { slots = xs; freed = t.freed })) (sym (set_past t.slots i (option_map (λ (x : Handle). with_lends (x.lends - 1) x) (handle_at t i)) le)) (same_table t)
 ]
 
 -- ---- states
@@ -301,10 +297,6 @@ making at new owner moved frame away i index h p unmade vacant is_owned ch mv = 
       let apart : n ≢ h.serial = λ e. none-some (place.InTable j q) (sym unmade ∙ (ap owner (sym e) ∙ was)) in
       mv.others n apart ∙ was
 
-get_last : {X : Type 0} (xs : List X) (p : X) → slice_get (xs ++ p ∷ []) (length xs) ≡ Some p
-get_last [] p = refl
-get_last (x ∷ xs) p = get_last xs p
-
 get_append : {X : Type 0} (xs : List X) (p : X) (m : ℕ) → m ≢ length xs → slice_get (xs ++ p ∷ []) m ≡ slice_get xs m
 get_append [] p zero ne = absurd (ne refl)
 get_append [] p (suc m) ne = refl
@@ -318,7 +310,7 @@ new_keeps fine s i r rep none p lt sound can =
     let t : Handles = table_at s.tables i in
     let adds = fine t h sound can.index in
     let at_t : HaveOnePlace (standing (slice_set s.tables i t)) (owners_of s.owners) (length (below_top s.stack)) (travelling s.passage) =
-    subst (λ (ts : List Handles). HaveOnePlace (standing ts) (owners_of s.owners) (length (below_top s.stack)) (travelling s.passage)) (sym (table_back s.tables i)) p in
+    subst (λ (ts : List Handles). HaveOnePlace (standing ts) (owners_of s.owners) (length (below_top s.stack)) (travelling s.passage)) (sym (set_same s.tables i)) p in
     let vacant : standing (slice_set s.tables i t) i (next_index t) ≡ None = ap (λ x. handle_at x (next_index t)) (table_same s.tables i t lt) ∙ adds.vacant in
     let moved : MovesTo (owners_of s.owners) (owners_of (s.owners ++ place.InTable i (next_index t) ∷ [])) (length s.owners) (place.InTable i (next_index t)) =
     record { here = get_last s.owners (place.InTable i (next_index t)); others = λ m ne. get_append s.owners (place.InTable i (next_index t)) m ne } in
@@ -330,7 +322,7 @@ pub drop_keeps : (s : State) (i index : ℕ) (h : Handle) → s.passage ≡ None
 drop_keeps s i index h none p lt stands owned =
     let t : Handles = table_at s.tables i in
     let at_t : HaveOnePlace (standing (slice_set s.tables i t)) (owners_of s.owners) (length (below_top s.stack)) (travelling s.passage) =
-    subst (λ (ts : List Handles). HaveOnePlace (standing ts) (owners_of s.owners) (length (below_top s.stack)) (travelling s.passage)) (sym (table_back s.tables i)) p in
+    subst (λ (ts : List Handles). HaveOnePlace (standing ts) (owners_of s.owners) (length (below_top s.stack)) (travelling s.passage)) (sym (set_same s.tables i)) p in
     let there : standing (slice_set s.tables i t) i index ≡ Some h = ap (λ x. handle_at x index) (table_same s.tables i t lt) ∙ stands in
     let was = place_of_owned (standing s.tables) (owners_of s.owners) (length (below_top s.stack)) (travelling s.passage) i index h p stands owned in
     dropping (standing (slice_set s.tables i t)) (standing (slice_set s.tables i (after_release t index))) (owners_of s.owners) (owners_of (slice_set s.owners h.serial place.Dropped)) (length (below_top s.stack)) (travelling s.passage) i index h

@@ -31,26 +31,19 @@ use Rattle.cm_machine_model.specs.State.{tables_after_call, tables_after_trap}
 use Rattle.cm_machine_model.specs.Step.{MayLeave, MayLeaveIn}
 use Rattle.cm_machine_model.specs.Valid.{IsBorrowedLeaf, IsStack, StandsOn, frame_at}
 use Rattle.cm_machine_valid.proofs.Lending.{Clean, CountsAt, Fades, HasFrame, IsIn, Like, at_other}
-use Rattle.cm_machine_valid.proofs.Lending.{at_release, count_both, counted_elsewhere, counted_one}
+use Rattle.cm_machine_valid.proofs.Lending.{count_both, counted_elsewhere, counted_one}
 use Rattle.cm_machine_valid.proofs.Lending.{counted_to, counts_of, ends_count, ends_fade, fade}
 use Rattle.cm_machine_valid.proofs.Lending.{fade_counts, fade_fades, fades_none, fades_refl}
 use Rattle.cm_machine_valid.proofs.Lending.{has_frame, in_lends_to, in_left, in_right, in_split}
 use Rattle.cm_machine_valid.proofs.Lending.{like_refl, met_at_index, one_counted, stands_lent}
 use Rattle.cm_machine_valid.proofs.Lending.{stays_in, times, to_lends, traps_clean, was_in}
 use Rattle.cm_machine_valid.proofs.LentLeaves.{contains, lent_is_there, lent_leaf, taken_is_there}
-use Rattle.cm_machine_valid.proofs.LiftPlaces.{table_same}
 use Rattle.cm_machine_valid.specs.Taking.{AreThere}
+use Rattle.cm_handles.proofs.HandlesLaws.{released}
+use Rattle.cm_machine_model.proofs.ValidLaws.{frame_within}
+use Rattle.cm_machine_model.proofs.StateLaws.{table_same}
 
 -- ---- frames
-
-pub frame_within : (fs : List Frame) (n : ℕ) (f : Frame) → frame_at fs n ≡ Some f → n < length fs
-frame_within [] n f e = absurd (none-some f e)
-frame_within (g ∷ fs) n f e = elim (cases_eq n (length fs)) as (λ r. n < length (g ∷ fs)) [
-  | inl same ↦ omega (arith, same)
-  | inr ne ↦
-      let rest : frame_at fs n ≡ Some f = sym (ap (λ (b : Bool). if b then Some g else frame_at fs n) (ne_eqb n (length fs) ne)) ∙ e in
-      omega (arith, frame_within fs n f rest)
-]
 
 pub frame_top : (f : Frame) (fs : List Frame) (n : ℕ) → n ≡ length fs → frame_at (f ∷ fs) n ≡ Some f
 frame_top f fs n e = ap (λ (b : Bool). if b then Some f else frame_at fs n) (eq-eqb n (length fs) e)
@@ -266,7 +259,7 @@ releases plan ts ls fs i index h lt stands free holds = record {
   us = slice_set ts i (after_release (table_at ts i) index)
 
   here : standing us i index ≡ None
-  here = ap (λ t. handle_at t index) (table_same ts i (after_release (table_at ts i) index) lt) ∙ at_release (table_at ts i) index
+  here = ap (λ t. handle_at t index) (table_same ts i (after_release (table_at ts i) index) lt) ∙ released (table_at ts i) index
 
   other : (j k : ℕ) → ((j ≡ i) × (k ≡ index) → ⊥) → standing us j k ≡ standing ts j k
   other j k ne = elim (cases_eq j i) as (λ r. standing us j k ≡ standing ts j k) [

@@ -1,14 +1,14 @@
 -- Counts of lends, one entry of a table after another.
-use Rattle.std.proofs.Common.{◌≡◌, ◌≢◌, ℕ, zero, suc, ◌+◌, ◌-◌, ◌<◌, ◌≤◌, ◌⊎◌, inl, inr, Bool, true}
+use Rattle.std.proofs.Common.{◌≡◌, ◌≢◌, ℕ, zero, suc, ◌+◌, ◌-◌, ◌<◌, ◌⊎◌, inl, inr, Bool, true}
 use Rattle.std.proofs.Common.{false, List, [], ◌∷◌, ◌++◌, length, map, get_or, Option, Some, None}
 use Rattle.std.proofs.Common.{refl, sym, ap, subst, ◌∙◌, arith}
 use Rattle.std.specs.Prelude.{slice_set, Contains, ◌==◌, ◌&&◌, not, if◌then◌else◌}
 use Rattle.std.specs.Option.{option_map}
 use Rattle.std.proofs.lemmas.Bool.{cases_eq, cases_lt, eq-eqb, ne_eqb, eqb-true}
-use Rattle.std.proofs.lemmas.List.{get_or-set_same, get_or-set_other, get_or_past, length-set}
+use Rattle.std.proofs.lemmas.List.{get_or-set_other}
 use Rattle.std.proofs.lemmas.Option.{none-some, same_Some}
-use Rattle.cm_handles.specs.Handles.{Handles, after_change, after_close, after_lend, after_release}
-use Rattle.cm_handles.specs.Handles.{after_unlend, handle_at, is_borrow, no_handles}
+use Rattle.cm_handles.specs.Handles.{Handles, after_close, after_lend, after_release}
+use Rattle.cm_handles.specs.Handles.{after_unlend, handle_at, is_borrow}
 use Rattle.cm_handles.specs.Handles.{slot_after_close, with_lends}
 use Rattle.cm_handles.specs.declared.handle.Handle.{Handle}
 use Rattle.cm_handles.specs.declared.handle.HandleKind.{HandleKind}
@@ -20,8 +20,11 @@ use Rattle.cm_machine_model.specs.declared.frame.Lend.{Lend}
 use Rattle.cm_machine_model.specs.Owning.{IsAmong, count_lends, standing}
 use Rattle.cm_machine_model.specs.State.{lends_after_call, lends_to, table_at, tables_after_call}
 use Rattle.cm_machine_model.specs.State.{tables_after_trap, tables_after_unlend}
-use Rattle.cm_machine_valid.proofs.KeepPlaces.{slice_set_past}
-use Rattle.cm_machine_valid.proofs.LiftPlaces.{table_other, table_same}
+use Rattle.cm_handles.proofs.HandlesLaws.{at_change, released, none_there}
+use Rattle.cm_lemmas.proofs.Numbers.{hit_both}
+use Rattle.cm_lemmas.proofs.Bools.{hit_by}
+use Rattle.cm_lemmas.proofs.Lists.{set_past}
+use Rattle.cm_machine_model.proofs.StateLaws.{table_other, table_past, table_same}
 
 -- ---- one entry
 
@@ -116,11 +119,6 @@ in_split [] ms l a = inr a
 in_split (x ∷ ls) ms l (inl e) = inl (inl e)
 in_split (x ∷ ls) ms l (inr a) = elim (in_split ls ms l a) as (λ r. IsIn (x ∷ ls) l ⊎ IsIn ms l) [ inl b ↦ inl (inr b) | inr b ↦ inr b ]
 
-hit_by : (a b : Bool) → 0 < (if a && b then 1 else 0) → (a ≡ true) × (b ≡ true)
-hit_by true true lt = (refl, refl)
-hit_by true false lt = absurd (omega (arith, lt))
-hit_by false b lt = absurd (omega (arith, lt))
-
 -- a handle that is counted is lent
 pub counted_one : (i k : ℕ) (ls : List Lend) → 0 < count_lends i k ls → (l : Lend) × IsIn ls l × (l.instance ≡ i) × (l.index ≡ k)
 counted_one i k [] lt = absurd (omega (arith, lt))
@@ -128,11 +126,6 @@ counted_one i k (l ∷ ls) lt = elim (cases_lt 0 (hits l i k)) as (λ r. (m : Le
   | inl hit ↦ let b = hit_by (l.instance == i) (l.index == k) hit in (l, inl refl, eqb-true l.instance i b.0, eqb-true l.index k b.1)
   | inr none ↦ let m = counted_one i k ls (omega (arith, lt, none)) in (m.0, inr m.1, m.2, m.3)
 ]
-
-hit_both : (a b : Bool) → a ≡ true → b ≡ true → ◌≡◌ {A = ℕ} (if a && b then 1 else 0) 1
-hit_both true true e f = refl
-hit_both true false e f = absurd (cc (f))
-hit_both false b e f = absurd (cc (e))
 
 hit_not : (a b : Bool) → a ≡ false → ◌≡◌ {A = ℕ} (if a && b then 1 else 0) 0
 hit_not true b e = absurd (cc (e))
@@ -169,15 +162,6 @@ none_counted i k (l ∷ ls) none = omega (arith, hits_instance l i k (λ e. none
 
 -- ---- tables
 
-pub none_there : (k : ℕ) → handle_at no_handles k ≡ None
-none_there zero = refl
-none_there (suc k) = refl
-
-pub table_past : (tables : List Handles) (i : ℕ) → length tables ≤ i → table_at tables i ≡ no_handles
-table_past [] i le = refl
-table_past (t ∷ ts) zero le = absurd (omega (arith, le))
-table_past (t ∷ ts) (suc i) le = table_past ts i (omega (arith, le))
-
 -- what stands at an index of a table that is replaced
 pub at_set : (tables : List Handles) (i k : ℕ) (new : Handles) (f : Option Handle → Option Handle) → f None ≡ None → handle_at new k ≡ f (standing tables i k)
     → standing (slice_set tables i new) i k ≡ f (standing tables i k)
@@ -185,26 +169,11 @@ at_set tables i k new f none here = elim (cases_lt i (length tables)) as (λ r. 
   | inl lt ↦ ap (λ t. handle_at t k) (table_same tables i new lt) ∙ here
   | inr le ↦
       let old : standing tables i k ≡ None = ap (λ t. handle_at t k) (table_past tables i le) ∙ none_there k in
-      ap (λ (ts : List Handles). standing ts i k) (slice_set_past tables i new le) ∙ (old ∙ (sym none ∙ sym (ap f old)))
+      ap (λ (ts : List Handles). standing ts i k) (set_past tables i new le) ∙ (old ∙ (sym none ∙ sym (ap f old)))
 ]
 
 pub at_other : (tables : List Handles) (i j k : ℕ) (new : Handles) → j ≢ i → standing (slice_set tables i new) j k ≡ standing tables j k
 at_other tables i j k new ne = ap (λ t. handle_at t k) (table_other tables i j new ne)
-
--- what stands at an index that is changed
-pub at_change : (t : Handles) (i : ℕ) (f : Handle → Handle) → handle_at (after_change t i f) i ≡ option_map f (handle_at t i)
-at_change t i f = elim (cases_lt i (length t.slots)) as (λ r. handle_at (after_change t i f) i ≡ option_map f (handle_at t i)) [
-  | inl lt ↦ get_or-set_same t.slots i (option_map f (handle_at t i)) None lt
-  | inr le ↦
-      let old : handle_at t i ≡ None = get_or_past t.slots i None le in
-      get_or_past (slice_set t.slots i (option_map f (handle_at t i))) i None (omega (arith, length-set t.slots i (option_map f (handle_at t i)), le)) ∙ sym (ap (λ (o : Option Handle). option_map f o) old)
-]
-
-pub at_release : (t : Handles) (i : ℕ) → handle_at (after_release t i) i ≡ None
-at_release t i = elim (cases_lt i (length t.slots)) as (λ r. handle_at (after_release t i) i ≡ None) [
-  | inl lt ↦ get_or-set_same t.slots i None None lt
-  | inr le ↦ get_or_past (slice_set t.slots i None) i None (omega (arith, length-set t.slots i None, le))
-]
 
 -- ---- what is met
 
@@ -218,7 +187,7 @@ fade k (lent i ∷ ms) o = fade k ms (if i == k then option_map (λ x. with_lend
 
 released_at : (t : Handles) (i k : ℕ) → handle_at (after_release t i) k ≡ (if i == k then None else handle_at t k)
 released_at t i k = elim (cases_eq i k) as (λ r. handle_at (after_release t i) k ≡ (if i == k then None else handle_at t k)) [
-  | inl same ↦ ap (λ x. handle_at (after_release t i) x) (sym same) ∙ (at_release t i ∙ sym (ap (λ (b : Bool). if b then None else handle_at t k) (eq-eqb i k same)))
+  | inl same ↦ ap (λ x. handle_at (after_release t i) x) (sym same) ∙ (released t i ∙ sym (ap (λ (b : Bool). if b then None else handle_at t k) (eq-eqb i k same)))
   | inr ne ↦ get_or-set_other t.slots i k None None (λ e. ne (sym e)) ∙ sym (ap (λ (b : Bool). if b then None else handle_at t k) (ne_eqb i k ne))
 ]
 

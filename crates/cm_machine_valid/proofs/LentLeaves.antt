@@ -9,8 +9,8 @@ use Rattle.cm_abi_model.specs.Taken.{Met, content, lent, lent_of, taken, taken_o
 use Rattle.cm_machine_model.specs.Owning.{IsAmong}
 use Rattle.cm_machine_model.specs.Plans.{NoneBorrowed}
 use Rattle.cm_machine_model.specs.Valid.{IsBorrowedLeaf}
-use Rattle.cm_machine_valid.proofs.Lists.{Contains-first, Contains-rest}
 use Rattle.cm_machine_valid.specs.Taking.{AreThere, IsOf}
+use Rattle.cm_lemmas.proofs.Lists.{Contains-first, Contains-rest}
 
 pub contains : (is : List ℕ) (k : ℕ) → IsAmong is k → Contains is k
 contains [] k a = absurd a

@@ -1,7 +1,5 @@
 mod OwningLaws
 mod LendingLaws
-mod Lists
-mod NoHandles
 mod OnePlaces
 mod LiftPlaces
 mod GivePlaces
@@ -13,7 +11,7 @@ mod StepPasses
 mod Starts
 mod Takes
 mod Lending
-mod LentLeaves
+pub mod LentLeaves
 mod LendKeeps
 mod StepLends
 mod LendsValid

@@ -1,14 +1,14 @@
 -- Why lifting keeps each resource in one place.
-use Rattle.std.proofs.Common.{◌≡◌, ◌≢◌, ℕ, zero, suc, ◌+◌, ◌<◌, ◌⊎◌, inl, inr, List, [], ◌∷◌, ◌++◌}
-use Rattle.std.proofs.Common.{length, get_or, Option, Some, None, refl, sym, ap, subst, ◌∙◌, arith}
+use Rattle.std.proofs.Common.{◌≡◌, ◌≢◌, ℕ, ◌+◌, ◌<◌, inl, inr, List, [], ◌∷◌, ◌++◌}
+use Rattle.std.proofs.Common.{length, Option, Some, None, refl, sym, ap, subst, ◌∙◌}
 use Rattle.std.proofs.Common.{append-nil, append_assoc}
-use Rattle.std.specs.Prelude.{slice_get, slice_set, unwrap_or}
+use Rattle.std.specs.Prelude.{slice_get, slice_set}
 use Rattle.std.specs.Option.{option_map}
 use Rattle.std.proofs.lemmas.Bool.{cases_eq}
-use Rattle.std.proofs.lemmas.List.{get_or-set_same, get_or-set_other, set-get_or}
-use Rattle.std.proofs.lemmas.Option.{none-some, slice_get_within, unwrap_or-slice_get}
+use Rattle.std.proofs.lemmas.List.{get_or-set_same, get_or-set_other}
+use Rattle.std.proofs.lemmas.Option.{slice_get_within}
 use Rattle.cm_types.specs.Values.{HandleValue}
-use Rattle.cm_handles.specs.Handles.{Handles, after_lend, after_release, handle_at, no_handles}
+use Rattle.cm_handles.specs.Handles.{Handles, after_lend, after_release, handle_at}
 use Rattle.cm_handles.specs.Handles.{with_lends}
 use Rattle.cm_handles.specs.declared.handle.Handle.{Handle}
 use Rattle.cm_abi_model.specs.Taken.{Met, text_content, content, taken, lent, after_met}
@@ -19,32 +19,12 @@ use Rattle.cm_machine_valid.proofs.OwningLaws.{ChangesAt, MovesTo}
 use Rattle.cm_machine_valid.specs.Taking.{AreTaken}
 use Rattle.cm_machine_model.specs.State.{table_at, with_places}
 use Rattle.cm_machine_valid.proofs.OnePlaces.{changing, place_of_owned, taking}
+use Rattle.cm_lemmas.proofs.Lists.{get_set_other, get_set_same}
+use Rattle.cm_handles.proofs.HandlesLaws.{lent_there}
+use Rattle.cm_machine_model.proofs.StateLaws.{set_same, table_other, table_same}
+use Rattle.cm_handles.proofs.SoundHandles.{within_slots}
 
 -- ---- lists
-
-pub get_set_same : {X : Type 0} (xs : List X) (i : ℕ) (x : X) → i < length xs → slice_get (slice_set xs i x) i ≡ Some x
-get_set_same [] i x lt = absurd (omega arith)
-get_set_same (y ∷ ys) zero x lt = refl
-get_set_same (y ∷ ys) (suc i) x lt = get_set_same ys i x (omega arith)
-
-pub get_set_other : {X : Type 0} (xs : List X) (i j : ℕ) (x : X) → j ≢ i → slice_get (slice_set xs i x) j ≡ slice_get xs j
-get_set_other [] i j x ne = refl
-get_set_other (y ∷ ys) zero zero x ne = absurd (ne refl)
-get_set_other (y ∷ ys) zero (suc j) x ne = refl
-get_set_other (y ∷ ys) (suc i) zero x ne = refl
-get_set_other (y ∷ ys) (suc i) (suc j) x ne = get_set_other ys i j x (λ e. ne (ap suc e))
-
-table_read : (tables : List Handles) (i : ℕ) → table_at tables i ≡ get_or tables i no_handles
-table_read tables i = unwrap_or-slice_get tables i no_handles
-
-pub table_same : (tables : List Handles) (i : ℕ) (t : Handles) → i < length tables → table_at (slice_set tables i t) i ≡ t
-table_same tables i t lt = ap (λ o. unwrap_or o no_handles) (get_set_same tables i t lt)
-
-pub table_other : (tables : List Handles) (i j : ℕ) (t : Handles) → j ≢ i → table_at (slice_set tables i t) j ≡ table_at tables j
-table_other tables i j t ne = ap (λ o. unwrap_or o no_handles) (get_set_other tables i j t ne)
-
-pub table_back : (tables : List Handles) (i : ℕ) → slice_set tables i (table_at tables i) ≡ tables
-table_back tables i = ap (λ t. slice_set tables i t) (table_read tables i) ∙ set-get_or tables i no_handles
 
 -- ---- one entry of one table
 
@@ -64,20 +44,8 @@ changed_in tables i index t new slot lt here others = record {
   ];
 }
 
-within : (t : Handles) (index : ℕ) (h : Handle) → handle_at t index ≡ Some h → index < length t.slots
-within t index h stands = elim (there t.slots index h stands) as (λ r. index < length t.slots) [ inl lt ↦ lt | inr none ↦ absurd none ] where
-  there : (xs : List (Option Handle)) (k : ℕ) (x : Handle) → get_or xs k None ≡ Some x → (k < length xs) ⊎ ⊥
-  there [] k x e = inr (none-some x e)
-  there (y ∷ ys) zero x e = inl (omega arith)
-  there (y ∷ ys) (suc k) x e = elim (there ys k x e) as (λ r. (suc k < length (y ∷ ys)) ⊎ ⊥) [ inl lt ↦ inl (omega arith) | inr n ↦ inr n ]
-
 pub released : (t : Handles) (index : ℕ) (h : Handle) → handle_at t index ≡ Some h → handle_at (after_release t index) index ≡ None
-released t index h stands = get_or-set_same t.slots index None None (within t index h stands)
-
-pub lent_there : (t : Handles) (index : ℕ) (h : Handle) → handle_at t index ≡ Some h → handle_at (after_lend t index) index ≡ Some (with_lends (h.lends + 1) h)
-lent_there t index h stands =
-    get_or-set_same t.slots index (option_map (λ x. with_lends (x.lends + 1) x) (handle_at t index)) None (within t index h stands)
-    ∙ ap (λ o. option_map (λ (x : Handle). with_lends (x.lends + 1) x) o) stands
+released t index h stands = get_or-set_same t.slots index None None (within_slots t index h stands)
 
 -- ---- what is met
 
@@ -123,4 +91,4 @@ pub lifting : (tables : List Handles) (owners : List Place) (frame : ℕ) (away 
     → HaveOnePlace (standing (slice_set tables i (after_met (table_at tables i) ms))) (owners_of (with_places (place.Travelling frame) hs owners)) frame (away ++ serials hs)
 lifting tables owners frame away i ms hs p lt a =
     lifting_in tables frame i ms (table_at tables i) owners away hs
-    (subst (λ (ts : List Handles). HaveOnePlace (standing ts) (owners_of owners) frame away) (sym (table_back tables i)) p) lt a
+    (subst (λ (ts : List Handles). HaveOnePlace (standing ts) (owners_of owners) frame away) (sym (set_same tables i)) p) lt a

@@ -22,12 +22,12 @@ use Rattle.cm_machine_model.specs.declared.frame.Place.{Place}
 use Rattle.cm_machine_model.specs.declared.frame.Place.TheVariants as place
 use Rattle.cm_machine_valid.proofs.OwningLaws.{AddingIsFine}
 use Rattle.cm_machine_model.specs.State.{Passage, table_at, tables_after_call, tables_after_trap}
-use Rattle.cm_machine_model.specs.State.{with_places}
 use Rattle.cm_machine_model.specs.Step.{owners_given}
 use Rattle.cm_machine_model.specs.Valid.{AllMade}
-use Rattle.cm_machine_valid.proofs.Lending.{Fades, at_release, ends_fade, fade_fades, met_at_index}
+use Rattle.cm_machine_valid.proofs.Lending.{Fades, ends_fade, fade_fades, met_at_index}
 use Rattle.cm_machine_valid.proofs.PlainKeeps.{table_set}
 use Rattle.cm_machine_valid.specs.Taking.{AreThere}
+use Rattle.cm_handles.proofs.HandlesLaws.{released}
 
 -- each handle of a table is of a resource with a lower serial number
 abbrev pub TableMade : ℕ → Handles → Type 0
@@ -53,7 +53,7 @@ made_some ts count o p all m = record { stand = m.stand; leaves = λ q e. subst 
 
 pub made_release : (count : ℕ) (t : Handles) (i : ℕ) → TableMade count t → TableMade count (after_release t i)
 made_release count t i made k h e = elim (cases_eq k i) as (λ r. h.serial < count) [
-  | inl same ↦ absurd (none-some h (sym (at_release t i) ∙ (ap (λ n. handle_at (after_release t i) n) (sym same) ∙ e)))
+  | inl same ↦ absurd (none-some h (sym (released t i) ∙ (ap (λ n. handle_at (after_release t i) n) (sym same) ∙ e)))
   | inr ne ↦ made k h (sym (get_or-set_other t.slots i k None None ne) ∙ e)
 ]
 
@@ -137,10 +137,6 @@ made_trap (f ∷ fs) ts count o m =
     made_trap fs (slice_set ts f.instance (after_close (table_at ts f.instance))) count o (made_table ts count o f.instance (after_close (table_at ts f.instance)) (made_close count (table_at ts f.instance) (m.stand f.instance)) m)
 
 -- ---- how many were made
-
-pub length_places : (p : Place) (hs : List HandleValue) (owners : List Place) → length (with_places p hs owners) ≡ length owners
-length_places p [] owners = refl
-length_places p (h ∷ hs) owners = length_places p hs (slice_set owners h.serial p) ∙ length-set owners h.serial p
 
 pub length_given : (i : ℕ) (leaves : List HandleLeaf) (ns : List ℕ) (owners : List Place) → length (owners_given i leaves ns owners) ≡ length owners
 length_given i [] ns owners = refl

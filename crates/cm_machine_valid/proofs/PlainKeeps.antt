@@ -12,10 +12,11 @@ use Rattle.cm_machine_model.specs.Memories.{memory_at}
 use Rattle.cm_machine_model.specs.Plan.{Plan}
 use Rattle.cm_machine_model.specs.State.{closed_after_trap, table_at, tables_after_call}
 use Rattle.cm_machine_model.specs.State.{tables_after_trap, tables_after_unlend}
-use Rattle.cm_machine_valid.proofs.KeepPlaces.{slice_set_past}
 use Rattle.cm_machine_valid.proofs.Lending.{HasFrame, either}
-use Rattle.cm_machine_valid.proofs.LiftPlaces.{get_set_other, get_set_same, table_other, table_same}
 use Rattle.cm_machine_valid.proofs.SoundTables.{TableLaws, sound_unlend}
+use Rattle.cm_machine_model.proofs.StateLaws.{flags_length, table_other, table_same}
+use Rattle.cm_lemmas.proofs.Lists.{get_set_other, set_past}
+use Rattle.cm_machine_model.proofs.MemoriesLaws.{memory_set as memory_same}
 
 pub record Plain (plan : Plan) (memories : List (List ℕ)) (tables : List Handles) (closed : List Bool) (fs : List Frame) : Type 0 where
   pub laws : TableLaws
@@ -28,14 +29,11 @@ pub record Plain (plan : Plan) (memories : List (List ℕ)) (tables : List Handl
   pub few : length fs ≤ MAX_FRAMES
   pub opened : (i : ℕ) → HasFrame fs i → slice_get closed i ≢ Some true
 
-pub memory_same : (ms : List (List ℕ)) (i : ℕ) (m : List ℕ) → i < length ms → memory_at (slice_set ms i m) i ≡ m
-memory_same ms i m lt = ap (λ o. unwrap_or o []) (get_set_same ms i m lt)
-
 pub memory_set : (ms : List (List ℕ)) (i j : ℕ) (m : List ℕ) (P : List ℕ → Type 0) → (i < length ms → P m) → ((k : ℕ) → P (memory_at ms k)) → P (memory_at (slice_set ms i m) j)
 memory_set ms i j m P new old = elim (cases_eq j i) as (λ r. P (memory_at (slice_set ms i m) j)) [
   | inl same ↦ elim (cases_lt i (length ms)) as (λ r. P (memory_at (slice_set ms i m) j)) [
     | inl lt ↦ subst P (sym (ap (λ k. memory_at (slice_set ms i m) k) same ∙ memory_same ms i m lt)) (new lt)
-    | inr past ↦ subst (λ (xs : List (List ℕ)). P (memory_at xs j)) (sym (slice_set_past ms i m past)) (old j)
+    | inr past ↦ subst (λ (xs : List (List ℕ)). P (memory_at xs j)) (sym (set_past ms i m past)) (old j)
   ]
   | inr ne ↦ subst P (sym (ap (λ o. unwrap_or o []) (get_set_other ms i j m ne))) (old j)
 ]
@@ -44,7 +42,7 @@ pub table_set : (ts : List Handles) (i j : ℕ) (t : Handles) (P : Handles → T
 table_set ts i j t P new old = elim (cases_eq j i) as (λ r. P (table_at (slice_set ts i t) j)) [
   | inl same ↦ elim (cases_lt i (length ts)) as (λ r. P (table_at (slice_set ts i t) j)) [
     | inl lt ↦ subst P (sym (ap (λ k. table_at (slice_set ts i t) k) same ∙ table_same ts i t lt)) new
-    | inr past ↦ subst (λ (xs : List Handles). P (table_at xs j)) (sym (slice_set_past ts i t past)) (old j)
+    | inr past ↦ subst (λ (xs : List Handles). P (table_at xs j)) (sym (set_past ts i t past)) (old j)
   ]
   | inr ne ↦ subst P (sym (table_other ts i j t ne)) (old j)
 ]
@@ -131,10 +129,6 @@ plain_end plan ms call (l ∷ ls) ts cs fs p =
     (plain_end plan ms call ls (tables_after_unlend l ts) cs fs (plain_table plan ms ts cs fs l.instance (after_unlend (table_at ts l.instance) l.index) (sound_unlend p.laws (table_at ts l.instance) l.index (p.sound l.instance)) p))
     (plain_end plan ms call ls ts cs fs p)
 
-closed_length : (fs : List Frame) (cs : List Bool) → length (closed_after_trap fs cs) ≡ length cs
-closed_length [] cs = refl
-closed_length (f ∷ fs) cs = closed_length fs (slice_set cs f.instance true) ∙ length-set cs f.instance true
-
 trap_tables : (plan : Plan) (ms : List (List ℕ)) (gs : List Frame) (ts : List Handles) (cs : List Bool) (fs : List Frame) → Plain plan ms ts cs fs → Plain plan ms (tables_after_trap gs ts) cs fs
 trap_tables plan ms [] ts cs fs p = p
 trap_tables plan ms (g ∷ gs) ts cs fs p =
@@ -147,7 +141,7 @@ plain_trap plan ms ts cs fs p =
       laws = q.laws;
       memories_are = q.memories_are;
       tables_are = q.tables_are;
-      closed_are = closed_length fs cs ∙ p.closed_are;
+      closed_are = flags_length fs cs ∙ p.closed_are;
       small = q.small;
       bytes = q.bytes;
       sound = q.sound;

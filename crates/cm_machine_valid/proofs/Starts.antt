@@ -21,12 +21,9 @@ use Rattle.cm_machine_model.specs.Plans.{IsPlan}
 use Rattle.cm_machine_model.specs.Run.{after_begin}
 use Rattle.cm_machine_model.specs.State.{are_page_counts, State, fresh_state, table_at, zeros}
 use Rattle.cm_machine_model.specs.Valid.{IsValidState, PassesAtTop, frame_at}
-use Rattle.cm_machine_valid.proofs.NoHandles.{sound_none}
-
-table_none : (n i : ℕ) → table_at (replicate n no_handles) i ≡ no_handles
-table_none zero i = refl
-table_none (suc n) zero = refl
-table_none (suc n) (suc i) = table_none n i
+use Rattle.cm_handles.proofs.SoundHandles.{IsSoundHandles-none}
+use Rattle.cm_machine_model.proofs.StateLaws.{table_none}
+use Rattle.cm_lemmas.proofs.Numbers.{zero_at}
 
 none_stands : (n i index : ℕ) (h : Handle) → handle_at (table_at (replicate n no_handles) i) index ≡ Some h → ⊥
 none_stands n i zero h e = none-some h (sym (ap (λ (t : Handles). handle_at t 0) (table_none n i)) ∙ e)
@@ -36,11 +33,6 @@ memory_of : (pages : List ℕ) (i : ℕ) → list_all (λ p. nat_le p MAX_PAGES)
 memory_of [] i e = omega arith
 memory_of (p ∷ ps) zero e = omega (arith, length-replicate {A = ℕ} (p * PAGE_SIZE) 0, leb-true p MAX_PAGES (and_parts (nat_le p MAX_PAGES) (list_all (λ p. nat_le p MAX_PAGES) ps) e).0)
 memory_of (p ∷ ps) (suc i) e = memory_of ps i (and_parts (nat_le p MAX_PAGES) (list_all (λ p. nat_le p MAX_PAGES) ps) e).1
-
-zero_at : (n a : ℕ) → slice_index (replicate n 0) a ≡ 0
-zero_at zero a = refl
-zero_at (suc n) zero = refl
-zero_at (suc n) (suc a) = zero_at n a
 
 byte_of : (pages : List ℕ) (i a : ℕ) → slice_index (memory_at (map zeros pages) i) a < 2 ^ 8
 byte_of [] i a = omega arith
@@ -60,7 +52,7 @@ fresh_is_valid plan pages linked fit =
       closed = length-replicate n false;
       small = λ i. memory_of pages i most;
       bytes = byte_of pages;
-      sound = λ i. subst (λ (t : Handles). IsSoundHandles t) (sym (table_none n i)) sound_none;
+      sound = λ i. subst (λ (t : Handles). IsSoundHandles t) (sym (table_none n i)) IsSoundHandles-none;
       few = omega arith;
       stack = tt;
       opened = λ f c. absurd (omega (arith, c.1));

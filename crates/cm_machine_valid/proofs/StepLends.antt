@@ -62,12 +62,14 @@ use Rattle.cm_machine_valid.proofs.LendKeeps.{frame_top, given_at, gives_by, lif
 use Rattle.cm_machine_valid.proofs.LendKeeps.{pops, pushes, releases, rephases, repasses}
 use Rattle.cm_machine_valid.proofs.LendKeeps.{same_purpose, traps, unpasses}
 use Rattle.cm_machine_valid.proofs.LentLeaves.{none_lent, none_to_borrow}
-use Rattle.cm_machine_valid.proofs.LiftPlaces.{table_other}
 use Rattle.cm_machine_model.specs.Rows.{same_link}
 use Rattle.cm_machine_valid.proofs.StepPlaces.{KnowsCall, KnowsCallee, actor_there, call_stands}
-use Rattle.cm_machine_valid.proofs.StepPlaces.{looked, none_for, not_lent}
+use Rattle.cm_machine_valid.proofs.StepPlaces.{none_for}
 use Rattle.cm_machine_valid.specs.Taking.{AreThere}
 use Rattle.cm_machine_valid.proofs.Takes.{there_denoted}
+use Rattle.cm_handles.proofs.HandleLaws.{err_is_no_ok, ok_in}
+use Rattle.cm_handles.proofs.HandlesLaws.{looked, not_lent}
+use Rattle.cm_machine_model.proofs.StateLaws.{table_other}
 
 abbrev pub H : Plan → State → Type 0
 H plan s = Holds plan s.tables s.lends s.stack s.passage
@@ -237,25 +239,13 @@ made_at fine t h sound room free owned k =
       owned_is_no_borrow : (c : ℕ) → handle.Owned ≡ handle.Borrowed c → ⊥
       owned_is_no_borrow c e = cc (e)
 
-abbrev okay : Handle → Result Handle HandleFault
-okay h = Ok h
-
-abbrev failed : HandleFault → Result Handle HandleFault
-failed f = Err f
-
-same_ok : (g h : Handle) → okay g ≡ okay h → g ≡ h
-same_ok g h e = cc (e)
-
-err_is_no_ok : (f : HandleFault) (h : Handle) → failed f ≡ okay h → ⊥
-err_is_no_ok f h e = cc (e)
-
 free_by : (b : Bool) (g h : Handle) → (if b then Ok g else Err handle_fault.StillLent) ≡ Ok h → b ≡ true
 free_by true g h e = refl
 free_by false g h e = absurd (err_is_no_ok handle_fault.StillLent h e)
 
 free : (x : Result Handle HandleFault) (h : Handle) → if_not_lent x ≡ Ok h → h.lends ≡ 0
 free (Err f) h e = absurd (err_is_no_ok f h e)
-free (Ok g) h e = ap (λ (x : Handle). x.lends) (same_ok h g (sym (not_lent (Ok g) h e))) ∙ eqb-true g.lends 0 (free_by (g.lends == 0) g h e)
+free (Ok g) h e = ap (λ (x : Handle). x.lends) (ok_in h g (sym (not_lent (Ok g) h e))) ∙ eqb-true g.lends 0 (free_by (g.lends == 0) g h e)
 
 called : AddingIsFine → (plan : Plan) (s : State) (top : Frame) (fs : List Frame) (func : ℕ) (o : Option CoreFunc) (args : List CoreValue) (e : Event) (new : State)
     → IsPlan plan → core_func_at plan (actor top) func ≡ o → s.stack ≡ top ∷ fs → H plan s → (MayLeave top.purpose → s.passage ≡ None) → actor top < length plan → actor top < length s.tables

@@ -4,13 +4,10 @@ use Rattle.std.proofs.Common.{◌≡◌, ◌≢◌, ℕ, ◌+◌, ◌≤◌, ◌
 use Rattle.std.proofs.Common.{◌∷◌, ◌++◌, length, Option, Some, None, refl, sym, ap, subst, ◌∙◌}
 use Rattle.std.proofs.Common.{arith}
 use Rattle.std.specs.Prelude.{◌-◌, slice_get, slice_set, take, drop, replicate, ◌*◌, Result, Ok}
-use Rattle.std.specs.Prelude.{Err, unwrap_or, nat_lt, not, ◌==◌, ◌%◌, if◌then◌else◌}
-use Rattle.std.proofs.lemmas.Bool.{cases_eq, cases_lt, le-ltb, ltb-false}
+use Rattle.std.specs.Prelude.{Err, unwrap_or}
+use Rattle.std.proofs.lemmas.Bool.{cases_eq, cases_lt}
 use Rattle.std.proofs.lemmas.List.{length-append, length-drop, length-take-le}
-use Rattle.cm_abi_model.specs.declared.fault.AbiFault.TheVariants as fault
-use Rattle.cm_machine_valid.proofs.LiftPlaces.{get_set_same, get_set_other}
-use Rattle.cm_machine_valid.proofs.KeepPlaces.{slice_set_past}
-use Rattle.std.proofs.lemmas.Option.{none-some, same_Some}
+use Rattle.std.proofs.lemmas.Option.{same_Some}
 use Rattle.cm_types.specs.declared.core_value.CoreValue.{CoreValue}
 use Rattle.cm_types.specs.Values.{Val}
 use Rattle.cm_handles.specs.Handles.{if_not_lent, look_up}
@@ -18,11 +15,11 @@ use Rattle.cm_handles.specs.declared.handle.Handle.{Handle}
 use Rattle.cm_handles.specs.declared.handle.HandleKind.{HandleKind}
 use Rattle.cm_handles.specs.declared.handle.HandleKind.TheVariants as handle
 use Rattle.cm_handles.specs.declared.fault.HandleFault.{HandleFault}
-use Rattle.cm_abi_model.specs.Answering.{answer_fault, fault_before, first_fault, places_of}
+use Rattle.cm_abi_model.specs.Answering.{answer_fault, first_fault}
 use Rattle.cm_abi_model.specs.declared.fault.AbiFault.{AbiFault}
 use Rattle.cm_abi_model.specs.declared.request.Request.{Request}
 use Rattle.cm_abi_model.specs.Numbers.{slot_at}
-use Rattle.cm_abi_model.specs.Requests.{is_spilled, call_parts, requests}
+use Rattle.cm_abi_model.specs.Requests.{is_spilled}
 use Rattle.cm_abi_model.specs.Views.{View, Way, params, results}
 use Rattle.cm_machine_model.specs.declared.event.Event.{Event}
 use Rattle.cm_machine_model.specs.declared.event.Trap.TheVariants as trap
@@ -40,7 +37,6 @@ use Rattle.cm_machine_model.specs.Passages.{IsScanned}
 use Rattle.cm_abi_model.specs.Answered.{last_answer}
 use Rattle.cm_machine_model.specs.Plan.{Plan, CoreFunc, Link, Reaches, core_func_at, drops, guest}
 use Rattle.cm_machine_model.specs.Plan.{lowered, makes, receiver_side, represents, types_of}
-use Rattle.cm_machine_model.specs.Plan.{giver_side}
 use Rattle.cm_machine_model.specs.Stack.{actor, actor_in, actor_of, below_top, top_of}
 use Rattle.cm_machine_model.specs.State.{Passage, State, table_at}
 use Rattle.cm_machine_model.specs.Step as step
@@ -57,10 +53,9 @@ use Rattle.cm_machine_model.specs.Plans.{IsLink, IsPlan}
 use Rattle.cm_machine_model.specs.Rows.{OfTraps, by_check, by_memory, by_trap, finish, same_link}
 use Rattle.cm_machine_valid.proofs.StepPlaces.{none_for}
 use Rattle.cm_machine_valid.proofs.OneCarried.{OneCarried}
-use Rattle.cm_abi_model.specs.RecordRequests.{tags_of}
-use Rattle.cm_abi_model.specs.Telling.{TellAll}
-use Rattle.cm_abi_model.specs.declared.record.PartRecord.{PartRecord}
-use Rattle.cm_abi_model.specs.Denotes.{Denotes}
+use Rattle.cm_machine_model.proofs.PassagesLaws.{carried_by, asked_on}
+use Rattle.cm_lemmas.proofs.Lists.{get_set_other, get_set_same, set_past}
+use Rattle.cm_abi_model.proofs.AnsweringLaws.{both_none, none_placed, no_fault, before_one, still_fine}
 
 abbrev Q : Plan → Event → State → Type 0
 Q plan e new = PassesAtTop plan new new.stack
@@ -90,29 +85,13 @@ idle plan s (f ∷ fs) none may = idle_for plan s f.purpose none (may f refl)
 
 -- ---- answers
 
-no_places : (rs : List Request) → places_of rs [] ≡ []
-no_places [] = refl
-no_places (r ∷ rs) = refl
-
-none_wrong : (n : ℕ) (rs : List Request) → first_fault n rs [] ≡ None
-none_wrong n [] = refl
-none_wrong n (r ∷ rs) = refl
-
-split_fault : (o q : Option AbiFault) → fault_before o q ≡ None → (o ≡ None) × (q ≡ None)
-split_fault None q e = (refl, e)
-split_fault (Some f) q e = absurd (none-some f (sym e))
-
-join_fault : (o q : Option AbiFault) → o ≡ None → q ≡ None → fault_before o q ≡ None
-join_fault None q e g = g
-join_fault (Some f) q e g = absurd (none-some f (sym e))
-
 one_more_fine : (n : ℕ) (rs : List Request) (answers : List ℕ) (r : Request) (a : ℕ) → first_fault n rs answers ≡ None → slice_get rs (length answers) ≡ Some r → answer_fault n r a ≡ None → first_fault n rs (answers ++ a ∷ []) ≡ None
 one_more_fine n [] [] r a fine is good = refl
 one_more_fine n [] (b ∷ answers) r a fine is good = refl
-one_more_fine n (q ∷ rs) [] r a fine is good = join_fault (answer_fault n q a) (first_fault n rs []) (ap (λ x. answer_fault n x a) (same_Some q r is) ∙ good) (none_wrong n rs)
+one_more_fine n (q ∷ rs) [] r a fine is good = both_none (answer_fault n q a) (first_fault n rs []) (ap (λ x. answer_fault n x a) (same_Some q r is) ∙ good) (no_fault n rs)
 one_more_fine n (q ∷ rs) (b ∷ answers) r a fine is good =
-    let both = split_fault (answer_fault n q b) (first_fault n rs answers) fine in
-    join_fault (answer_fault n q b) (first_fault n rs (answers ++ a ∷ [])) both.0 (one_more_fine n rs answers r a both.1 is good)
+    let both = before_one (answer_fault n q b) (first_fault n rs answers) fine in
+    both_none (answer_fault n q b) (first_fault n rs (answers ++ a ∷ [])) both.0 (one_more_fine n rs answers r a both.1 is good)
 
 -- ---- where a value goes on
 
@@ -180,21 +159,6 @@ topped way plan st l call top i fs p is ph caller func reach some o =
 
 -- ---- the receiver moves
 
-by_bound : (n m x : ℕ) (c : Bool) → nat_lt n x ≡ c → n ≤ m → (if c then Some fault.PointerBounds else None) ≡ None → (if nat_lt m x then Some fault.PointerBounds else None) ≡ None
-by_bound n m x true is le e = absurd (none-some fault.PointerBounds (sym e))
-by_bound n m x false is le e = ap (λ (c : Bool). if c then Some fault.PointerBounds else None) (le-ltb m x (omega (arith, ltb-false n x is, le)))
-
-still_fine_by : (n m : ℕ) (b : Bool) (x : ℕ) → n ≤ m → (if b then Some fault.Misaligned else (if nat_lt n x then Some fault.PointerBounds else None)) ≡ None → (if b then Some fault.Misaligned else (if nat_lt m x then Some fault.PointerBounds else None)) ≡ None
-still_fine_by n m true x le e = absurd (none-some fault.Misaligned (sym e))
-still_fine_by n m false x le e = by_bound n m x (nat_lt n x) refl le e
-
-still_fine : (n m : ℕ) (rs : List Request) (answers : List ℕ) → n ≤ m → first_fault n rs answers ≡ None → first_fault m rs answers ≡ None
-still_fine n m [] answers le e = refl
-still_fine n m (r ∷ rs) [] le e = refl
-still_fine n m (r ∷ rs) (b ∷ answers) le e =
-    let both = split_fault (answer_fault n r b) (first_fault n rs answers) e in
-    join_fault (answer_fault m r b) (first_fault m rs answers) (still_fine_by n m (not (b % r.align == 0)) (b + r.size) le both.0) (still_fine n m rs answers le both.1)
-
 memory_other : (ms : List (List ℕ)) (j k : ℕ) (m : List ℕ) → k ≢ j → memory_at (slice_set ms j m) k ≡ memory_at ms k
 memory_other ms j k m ne = ap (λ o. unwrap_or o []) (get_set_other ms j k m ne)
 
@@ -204,7 +168,7 @@ memory_longer ms j k m le = elim (cases_eq k j) as (λ r. length (memory_at ms k
     | inl lt ↦
         let now : memory_at (slice_set ms j m) k ≡ m = ap (λ x. memory_at (slice_set ms j m) x) same ∙ ap (λ o. unwrap_or o []) (get_set_same ms j m lt) in
         subst (λ (x : List ℕ). length (memory_at ms k) ≤ length x) (sym now) (subst (λ (x : ℕ). length (memory_at ms x) ≤ length m) (sym same) le)
-    | inr past ↦ subst (λ (xs : List (List ℕ)). length (memory_at ms k) ≤ length (memory_at xs k)) (sym (slice_set_past ms j m past)) (omega arith)
+    | inr past ↦ subst (λ (xs : List (List ℕ)). length (memory_at ms k) ≤ length (memory_at xs k)) (sym (set_past ms j m past)) (omega arith)
   ]
   | inr ne ↦ subst (λ (x : List ℕ). length (memory_at ms k) ≤ length x) (sym (memory_other ms j k m ne)) (omega arith)
 ]
@@ -244,27 +208,13 @@ moved_memory plan s top fs m is valid longer =
 
 -- ---- one more answer
 
-carried_by : (memory : List ℕ) (l : Link) (way : Way) (rs : List Request) (p : Passage) (a : ℕ) (q : Passage) (v : Val) → IsAnswered rs p a q → Carries memory l way p v → Carries memory l way q v
-carried_by memory l way rs p a q v is c = record {
-  view = c.view;
-  memory_is = c.memory_is;
-  encoding_is = c.encoding_is;
-  denoted = subst (λ (xs : List CoreValue). Denotes c.view way (types_of l way) xs v) (sym is.slots) c.denoted;
-  handles = is.leaves ∙ c.handles;
-  starts = c.starts;
-  told = subst (λ (xs : List PartRecord). TellAll c.view (receiver_side l way).encoding xs (call_parts way (types_of l way) v) c.starts) (sym is.records) c.told;
-}
-
-same_requests : (l : Link) (way : Way) (rs : List Request) (p : Passage) (a : ℕ) (q : Passage) (v : Val) → IsAnswered rs p a q → asked_for l way q v ≡ asked_for l way p v
-same_requests l way rs p a q v is = ap (λ (xs : List PartRecord). requests way (types_of l way) v (giver_side l way).encoding (receiver_side l way).encoding (tags_of xs)) is.records
-
 more_carrying : (plan : Plan) (st : State) (l : Link) (way : Way) (call : Call) (p : Passage) (v : Val) (answers : List ℕ) (r : Request) (a : ℕ) (q : Passage) → Carrying plan st l way call p v answers → IsAnswered (asked_for l way p v) p a q
     → slice_get (asked_for l way p v) (length answers) ≡ Some r → answer_fault (length (memory_at st.memories (receiver_of way (top_place st) l call).instance)) r a ≡ None
     → Carrying plan (record st { passage = Some q }) l way call q v (answers ++ a ∷ [])
 more_carrying plan st l way call p v answers r a q c is next good = record {
   carried = carried_by (memory_at st.memories (giver_of way l call)) l way (asked_for l way p v) p a q v is c.carried;
-  answered = subst (λ (rs : List Request). HasAnswers rs (answers ++ a ∷ []) q) (sym (same_requests l way (asked_for l way p v) p a q v is)) (is.answers answers c.answered);
-  fine = subst (λ (rs : List Request). first_fault (length (memory_at st.memories (receiver_of way (top_place st) l call).instance)) rs (answers ++ a ∷ []) ≡ None) (sym (same_requests l way (asked_for l way p v) p a q v is))
+  answered = subst (λ (rs : List Request). HasAnswers rs (answers ++ a ∷ []) q) (sym (asked_on l way (asked_for l way p v) p a q v is)) (is.answers answers c.answered);
+  fine = subst (λ (rs : List Request). first_fault (length (memory_at st.memories (receiver_of way (top_place st) l call).instance)) rs (answers ++ a ∷ []) ≡ None) (sym (asked_on l way (asked_for l way p v) p a q v is))
       (one_more_fine (length (memory_at st.memories (receiver_of way (top_place st) l call).instance)) (asked_for l way p v) answers r a c.fine next good);
 }
 
@@ -275,8 +225,8 @@ by_good plan row st (Some f) e new x go = by_trap (Q plan) (q_traps plan) st (tr
 fresh_carrying : (plan : Plan) (st : State) (l : Link) (way : Way) (call : Call) (w : View) (slots : List CoreValue) (p : Passage) (v : Val) → w.memory ≡ memory_at st.memories (giver_of way l call) → IsScanned w l way slots v p → Carrying plan st l way call p v []
 fresh_carrying plan st l way call w slots p v same is = record {
   carried = subst (λ (m : List ℕ). Carries m l way p v) same is.carried;
-  answered = record { count = is.none_answered; last = is.none_last; places = is.none_placed ∙ sym (no_places (asked_for l way p v)) };
-  fine = none_wrong (length (memory_at st.memories (receiver_of way (top_place st) l call).instance)) (asked_for l way p v);
+  answered = record { count = is.none_answered; last = is.none_last; places = is.none_placed ∙ sym (none_placed (asked_for l way p v)) };
+  fine = no_fault (length (memory_at st.memories (receiver_of way (top_place st) l call).instance)) (asked_for l way p v);
 }
 
 may_below : (plan : Plan) (call : Call) (i : ℕ) (fs : List Frame) → StandsOn plan (purpose.Call call) i fs → MayBelow fs

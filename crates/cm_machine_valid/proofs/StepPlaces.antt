@@ -1,15 +1,14 @@
 -- Why each step keeps each resource in one place.
 use Rattle.std.proofs.Common.{◌≡◌, ◌≢◌, ℕ, ◌<◌, ◌⊎◌, inl, inr, Bool, true, false, List, [], ◌∷◌}
 use Rattle.std.proofs.Common.{◌++◌, length, Option, Some, None, refl, sym, ap, subst, ◌∙◌, arith}
-use Rattle.std.specs.Prelude.{slice_get, take, Result, Ok, Err, ◌==◌, if◌then◌else◌}
+use Rattle.std.specs.Prelude.{slice_get, take, Result, Ok, Err}
 use Rattle.std.proofs.lemmas.Option.{none-some, same_Some}
 use Rattle.std.proofs.lemmas.List.{get_or-set_other, length-set}
 use Rattle.cm_types.specs.declared.core_value.CoreValue.{CoreValue}
 use Rattle.cm_types.specs.declared.resource.ResourceId.{ResourceId}
 use Rattle.cm_types.specs.Values.{Val}
 use Rattle.cm_handles.specs.Handles.{Handles, IsSoundHandles, after_release, handle_at, if_not_lent}
-use Rattle.cm_handles.specs.Handles.{is_same_resource, look_up, of_resource}
-use Rattle.cm_handles.specs.declared.fault.HandleFault.TheVariants as handle_fault
+use Rattle.cm_handles.specs.Handles.{look_up}
 use Rattle.cm_abi_model.specs.Answering.{answer_fault}
 use Rattle.cm_machine_model.specs.Memories.{memory_at}
 use Rattle.std.proofs.lemmas.Bool.{cases_eq}
@@ -47,7 +46,7 @@ use Rattle.cm_machine_model.specs.Plan.{Plan, CoreFunc, Link, Reaches, core_func
 use Rattle.cm_machine_model.specs.Plan.{entered_kinds, guest, lowered, makes, represents}
 use Rattle.cm_machine_model.specs.Plan.{receiver_side, types_of}
 use Rattle.cm_machine_model.specs.Plans.{IsLink}
-use Rattle.cm_machine_model.specs.Stack.{actor, actor_in, actor_of, below_top, top_of}
+use Rattle.cm_machine_model.specs.Stack.{actor, below_top}
 use Rattle.cm_machine_model.specs.State.{Passage, State, table_at, view_of}
 use Rattle.cm_machine_model.specs.Step.{Traps, UnlessWrong, after_handing, after_lift, call_frame}
 use Rattle.cm_machine_model.specs.Step.{in_phase, pushed, MayLeave, MayLeaveIn, GoesOn, GoesOnBy}
@@ -59,10 +58,13 @@ use Rattle.cm_machine_model.specs.Step.{Moves, StepOn, Step, popped, after_drop,
 use Rattle.cm_machine_model.specs.Step.{trap_of_handle}
 use Rattle.cm_machine_model.specs.Valid.{IsStack, IsValidState, PassesAtTop, PassesFor, PassesIn}
 use Rattle.cm_machine_model.specs.Valid.{StandsOn}
-use Rattle.cm_machine_valid.proofs.LiftPlaces.{lifting, released, table_other}
+use Rattle.cm_machine_valid.proofs.LiftPlaces.{lifting, released}
 use Rattle.cm_machine_valid.proofs.GivePlaces.{giving_all}
 use Rattle.cm_machine_valid.proofs.KeepPlaces.{OwnSame, any_frame, drop_keeps, end_keeps, new_keeps}
 use Rattle.cm_machine_valid.proofs.KeepPlaces.{replaced, trap_keeps}
+use Rattle.cm_machine_model.proofs.StackLaws.{acts_for}
+use Rattle.cm_handles.proofs.HandlesLaws.{looked, not_lent}
+use Rattle.cm_machine_model.proofs.StateLaws.{table_other}
 
 -- ---- rows
 
@@ -127,22 +129,10 @@ none_for plan s purpose.Root i fs st x may = x
 none_for plan s (purpose.Call call) i fs st x may = none_in call.phase s st.0.0 call s.passage (x st.0.0 st.0.1) may
 none_for plan s (purpose.Destructor d) i fs st x may = x
 
-actor_within : (ph : Phase) (i c n : ℕ) → i < n → c < n → actor_in ph i c < n
-actor_within phase.Arguments i c n a b = a
-actor_within phase.Body i c n a b = a
-actor_within phase.Results i c n a b = b
-actor_within (phase.PostReturn r) i c n a b = a
-
-actor_for : (plan : Plan) (pu : Purpose) (i : ℕ) (fs : List Frame) → i < length plan → StandsOn plan pu i fs → ((g : Frame) → top_of fs ≡ Some g → actor g < length plan) → actor_of pu i < length plan
-actor_for plan purpose.Root i fs lt st below = lt
-actor_for plan (purpose.Call call) i fs lt st below =
-    actor_within call.phase i call.caller (length plan) lt (subst (λ (n : ℕ). n < length plan) st.1.2 (below st.1.0 st.1.1))
-actor_for plan (purpose.Destructor d) i fs lt st below = lt
-
 pub actor_there : (plan : Plan) (fs : List Frame) (top : Frame) → IsStack plan (top ∷ fs) → actor top < length plan
-actor_there plan [] top st = actor_for plan top.purpose top.instance [] st.0 st.1 (λ g e. absurd (none-some g e))
+actor_there plan [] top st = acts_for plan top.purpose top.instance [] st.0 st.1 (λ g e. absurd (none-some g e))
 actor_there plan (f ∷ fs) top st =
-    actor_for plan top.purpose top.instance (f ∷ fs) st.0 st.1 (λ g e. subst (λ (x : Frame). actor x < length plan) (same_Some f g e) (actor_there plan fs f st.2))
+    acts_for plan top.purpose top.instance (f ∷ fs) st.0 st.1 (λ g e. subst (λ (x : Frame). actor x < length plan) (same_Some f g e) (actor_there plan fs f st.2))
 
 pub caller_there : (plan : Plan) (fs : List Frame) (call : Call) (i : ℕ) → StandsOn plan (purpose.Call call) i fs → IsStack plan fs → call.caller < length plan
 caller_there plan [] call i st below = absurd (none-some st.1.0 st.1.1)
@@ -221,34 +211,6 @@ drops_owned s i r (Some f) index h e new one none lt stands owned x =
     (any_frame (standing (after_drop s i index h).tables) (owners_of (after_drop s i index h).owners) (length (below_top s.stack)) (length s.stack)
     (subst (λ (o : Option Passage). HaveOnePlace (standing (after_drop s i index h).tables) (owners_of (after_drop s i index h).owners) (length (below_top s.stack)) (travelling o)) none
     (drop_keeps s i index h none one lt stands owned))))))
-
-abbrev okay : Handle → Result Handle HandleFault
-okay h = Ok h
-
-abbrev failed : HandleFault → Result Handle HandleFault
-failed f = Err f
-
-ok_in : (h g : Handle) → okay h ≡ okay g → h ≡ g
-ok_in h g e = cc (e)
-
-err_is_no_ok : (f : HandleFault) (h : Handle) → failed f ≡ okay h → ⊥
-err_is_no_ok f h e = cc (e)
-
-same_by : (b : Bool) (g h : Handle) → (if b then Ok g else Err handle_fault.WrongResource) ≡ Ok h → g ≡ h
-same_by true g h e = ok_in g h e
-same_by false g h e = absurd (err_is_no_ok handle_fault.WrongResource h e)
-
-pub looked : (o : Option Handle) (r : ResourceId) (h : Handle) → of_resource o r ≡ Ok h → o ≡ Some h
-looked None r h e = absurd (err_is_no_ok handle_fault.NoHandle h e)
-looked (Some g) r h e = ap Some (same_by (is_same_resource g.resource r) g h e)
-
-lent_by : (b : Bool) (g h : Handle) → (if b then Ok g else Err handle_fault.StillLent) ≡ Ok h → g ≡ h
-lent_by true g h e = ok_in g h e
-lent_by false g h e = absurd (err_is_no_ok handle_fault.StillLent h e)
-
-pub not_lent : (x : Result Handle HandleFault) (h : Handle) → if_not_lent x ≡ Ok h → x ≡ Ok h
-not_lent (Err f) h e = absurd (err_is_no_ok f h e)
-not_lent (Ok g) h e = ap Ok (lent_by (g.lends == 0) g h e)
 
 -- a handle that was borrowed goes
 unborrowed : (t : Handles) (index call : ℕ) (b : Handle) → handle_at t index ≡ Some b → b.kind ≡ handle.Borrowed call → OwnSame t (after_release t index)

@@ -44,7 +44,7 @@ use Rattle.cm_machine_model.specs.Plan.{receiver_side, types_of, Plan, CoreFunc,
 use Rattle.cm_machine_model.specs.Plan.{drops, guest, lowered, makes, represents}
 use Rattle.cm_machine_valid.proofs.ByteMemories.{grown_bytes, stored_bytes, written_bytes}
 use Rattle.cm_machine_valid.proofs.WrittenBytes.{call_written}
-use Rattle.cm_machine_valid.proofs.PlainKeeps.{memory_same, Plain, plain_end, plain_memory}
+use Rattle.cm_machine_valid.proofs.PlainKeeps.{Plain, plain_end, plain_memory}
 use Rattle.cm_machine_valid.proofs.PlainKeeps.{plain_pop, plain_push, plain_table, plain_trap}
 use Rattle.cm_machine_valid.proofs.PlainKeeps.{plain_turn}
 use Rattle.cm_machine_model.specs.declared.frame.Call.{Call}
@@ -67,7 +67,7 @@ use Rattle.cm_machine_model.specs.State.{table_at, tables_after_trap, with_place
 use Rattle.cm_machine_model.specs.Step as step
 use Rattle.cm_machine_model.specs.Valid.{IsStack, StandsOn, AllMade}
 use Rattle.cm_machine_model.specs.declared.frame.Place.TheVariants as place
-use Rattle.cm_machine_valid.proofs.MadeKeeps.{Made, length_given, length_places, made_add, made_end}
+use Rattle.cm_machine_valid.proofs.MadeKeeps.{Made, length_given, made_add, made_end}
 use Rattle.cm_machine_valid.proofs.MadeKeeps.{made_given, made_leaves, made_met, made_more}
 use Rattle.cm_machine_valid.proofs.MadeKeeps.{made_none, made_release, made_some, made_table}
 use Rattle.cm_machine_valid.proofs.MadeKeeps.{made_trap}
@@ -77,7 +77,9 @@ use Rattle.cm_machine_valid.proofs.LendKeeps.{call_of}
 use Rattle.cm_machine_valid.specs.Taking.{AreThere}
 use Rattle.cm_machine_valid.proofs.Takes.{lift_takes}
 use Rattle.cm_machine_model.specs.Rows.{same_link}
-use Rattle.cm_machine_valid.proofs.StepPlaces.{looked, not_lent}
+use Rattle.cm_machine_model.proofs.StateLaws.{length_places}
+use Rattle.cm_handles.proofs.HandlesLaws.{looked, not_lent}
+use Rattle.cm_machine_model.proofs.MemoriesLaws.{memory_set}
 
 abbrev pub H : Plan → State → Type 0
 H plan s = Plain plan s.memories s.tables s.closed s.stack × Made s.tables (length s.owners) s.passage
@@ -143,7 +145,7 @@ handed_bytes : (st : State) (l : Link) (way : Way) (to : Receiver) (p : Passage)
 handed_bytes st l way to p v memory slots bytes is inside =
     stored_bytes (memory_at st.memories to.instance) memory (call_bytes (given_to st l way to p) way (types_of l way) v)
     (call_written (receiver_side l way).encoding (given_to st l way to p) way (types_of l way) v refl is.received.typed)
-    (subst (λ (m : List ℕ). Holds m (call_bytes (given_to st l way to p) way (types_of l way) v)) (memory_same st.memories to.instance memory inside) is.received.bytes) is.framed bytes
+    (subst (λ (m : List ℕ). Holds m (call_bytes (given_to st l way to p) way (types_of l way) v)) (memory_set st.memories to.instance memory inside) is.received.bytes) is.framed bytes
 
 handed : AddingIsFine → (plan : Plan) (st : State) (to : Receiver) (p : Passage) (memory : List ℕ) → H plan st → st.passage ≡ Some p → added_count to p.leaves ≤ indices_left (table_at st.tables to.instance) → length memory ≡ length (memory_at st.memories to.instance)
     → (to.instance < length st.memories → AreBytes memory) → H plan (after_handing st to p memory)

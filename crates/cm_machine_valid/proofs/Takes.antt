@@ -6,7 +6,7 @@ use Rattle.std.proofs.lemmas.List.{append_assoc, append-nil, get_or-set_other}
 use Rattle.std.proofs.lemmas.Bool.{cases_eq, lt-ltb, le-ltb}
 use Rattle.cm_types.specs.declared.core_value.CoreValue.{CoreValue}
 use Rattle.cm_types.specs.declared.resource.ResourceId.{ResourceId}
-use Rattle.cm_types.specs.Types.{Width, FieldsKind, CasesKind, Ty, Fields, Cases, bool, signed, unsigned, char, string, list, fixed_list, fields, cases, flags, own, borrow, no_fields, field, no_cases}
+use Rattle.cm_types.specs.Types.{Width, FieldsKind, Ty, Fields, Cases, bool, signed, unsigned, char, string, list, fixed_list, fields, cases, flags, own, borrow, no_fields, field, no_cases}
 use Rattle.cm_types.specs.Types.{plain, carrying}
 use Rattle.cm_types.specs.Values.{Val, Vals, HandleValue, no_vals, val, truth, signed_number, number, scalar, text, elements, parts, bare, bearing, flag_set, handle, IsPlainCase}
 use Rattle.cm_handles.specs.Handles.{Handles, IsDistinct, after_lend, after_release, handle_at, with_lends}
@@ -27,9 +27,10 @@ use Rattle.cm_abi_model.specs.Denotes.{Denotes}
 use Rattle.cm_machine_valid.proofs.OwningLaws.{LiftTakes}
 use Rattle.cm_machine_valid.specs.Taking.{AreTaken}
 use Rattle.cm_abi_model.specs.HandleLeaves.{owned_in}
-use Rattle.cm_machine_valid.proofs.LiftPlaces.{lent_there}
 use Rattle.cm_machine_valid.specs.Taking.{AreThere}
-use Rattle.cm_machine_valid.proofs.Lists.{Contains-first, Contains-rest}
+use Rattle.cm_lemmas.proofs.Lists.{Contains-first, Contains-rest}
+use Rattle.cm_abi_model.proofs.OneAcross.{as_case, flat_as_case}
+use Rattle.cm_handles.proofs.HandlesLaws.{lent_there}
 
 regroup : (t : Handles) (xs ys ms : List Met) (us vs ls : List HandleLeaf) → AreThere t (xs ++ (ys ++ ms)) (us ++ (vs ++ ls)) → AreThere t ((xs ++ ys) ++ ms) ((us ++ vs) ++ ls)
 regroup t xs ys ms us vs ls x = subst (λ (k : List Met). AreThere t k ((us ++ vs) ++ ls)) (sym (append_assoc xs ys ms)) (subst (λ (k : List HandleLeaf). AreThere t (xs ++ (ys ++ ms)) k) (sym (append_assoc us vs ls)) x)
@@ -92,21 +93,6 @@ as_own w p r v h = absurd h
 as_borrow : (w : View) (p : ℕ) (r : ResourceId) (v : Val) → Shows w (borrow r) p v → Is handle (λ a. Shows w (borrow r) p (handle a)) v
 as_borrow w p r (handle a) h = record { content = a; value = refl; fact = h }
 as_borrow w p r v h = absurd h
-
-as_case : (w : View) (p : ℕ) (k : CasesKind) (cs : Cases) (v : Val) → Shows w (cases k cs) p v
-    → ((i : ℕ) × (v ≡ bare i) × (number_at (discriminant_size (case_count cs)) w.memory p ≡ i) × IsPlainCase cs i)
-    ⊎ ((i : ℕ) × (a : Val) × (v ≡ bearing i a) × (number_at (discriminant_size (case_count cs)) w.memory p ≡ i) × ShowsPayload w cs (p + payload_offset cs) i a)
-as_case w p k cs (bare i) h = inl (i, refl, h.0, h.1)
-as_case w p k cs (bearing i a) h = inr (i, a, refl, h.0, h.1)
-as_case w p k cs v h = absurd h
-
--- the same of slots
-flat_as_case : (w : View) (s : List CoreValue) (p : ℕ) (k : CasesKind) (cs : Cases) (v : Val) → FlatShows w s (cases k cs) p v
-    → ((i : ℕ) × (v ≡ bare i) × (wrapped_at 4 s p ≡ i) × IsPlainCase cs i)
-    ⊎ ((i : ℕ) × (a : Val) × (v ≡ bearing i a) × (wrapped_at 4 s p ≡ i) × FlatShowsPayload w s cs (p + 1) i a)
-flat_as_case w s p k cs (bare i) h = inl (i, refl, h.0, h.1)
-flat_as_case w s p k cs (bearing i a) h = inr (i, a, refl, h.0, h.1)
-flat_as_case w s p k cs v h = absurd h
 
 flat_as_bool : (w : View) (s : List CoreValue) (p : ℕ) (v : Val) → FlatShows w s bool p v → Is truth (λ a. FlatShows w s bool p (truth a)) v
 flat_as_bool w s p (truth a) h = record { content = a; value = refl; fact = h }

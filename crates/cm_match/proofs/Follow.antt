@@ -1,7 +1,6 @@
 -- From an import to what serves it.
 use Rattle.std.proofs.Common.{◌≡◌, ℕ, List, Option, Some, None, slice_get, refl, sym, ap, ◌∙◌, Bor}
-use Rattle.std.proofs.lemmas.Option.{slice_get-get_or, slice_get-map, slice_get_past}
-use Rattle.std.specs.Slice.{IsItemAt}
+use Rattle.std.proofs.lemmas.Option.{slice_get-map}
 use Rattle.std.specs.Option.{option_map, option_and_then}
 use Rattle.cm_validate_model.specs.Definitions.{ExportDef, exported_func, exported_instance, FuncDef}
 use Rattle.cm_validate_model.specs.Definitions as definitions
@@ -14,11 +13,6 @@ use Rattle.cm_match_model.specs.declared.component.Link.{Link}
 use Rattle.cm_match_model.specs.Imports.{export_in, links_of}
 use Rattle.cm_match_model.specs.Targets.{func_for, linked_func, serving_func}
 use Rattle.cm_match_serving.specs.Sets.{funcs_at, sections_of, set_of}
-
--- what a look-up gives
-pub got : {X : Type 0} (xs : List X) (i : ℕ) (r : Option (Bor X)) → IsItemAt xs i r → option_map (λ x. x.now) r ≡ slice_get xs i
-got xs i None h = sym (slice_get_past xs i h.3)
-got xs i (Some x) h = sym (slice_get-get_or xs i x.now h.3.0 ∙ ap Some (sym h.1))
 
 -- ---- a component of the set
 

@@ -1,6 +1,6 @@
 -- The items of an import, as those of its type with the type's own resources moved.
-use Rattle.std.proofs.Common.{◌≡◌, inl, inr, ℕ, ◌+◌, ◌<◌, ◌≤◌, true, false, List, [], ◌∷◌, map, refl, sym, ap, ◌∙◌, subst, nat_lt}
-use Rattle.std.proofs.lemmas.Bool.{cases_lt, lt-ltb, le-ltb, lt-leb}
+use Rattle.std.proofs.Common.{◌≡◌, inl, inr, ℕ, ◌+◌, ◌<◌, List, [], ◌∷◌, map, refl, sym, ap, ◌∙◌, subst}
+use Rattle.std.proofs.lemmas.Bool.{cases_lt, lt-leb}
 use Rattle.cm_types.specs.Signatures.{ItemTy, NamedItem, func_item, equal_type, equal_resource, fresh_resource}
 use Rattle.cm_types.specs.Types.{Ty, FuncTy}
 use Rattle.cm_types.specs.declared.resource.ResourceId.{ResourceId}
@@ -12,6 +12,7 @@ use Rattle.cm_validate_model.specs.Moves.{moved_id, moved_type, moved_func, move
 use Rattle.cm_validate_model.specs.Counted.{IsCounted, IsFuncCounted, IsItemCounted, IsAmongFirst}
 use Rattle.cm_validate_model.specs.CountedSpaces.{AreItemsCounted}
 use Rattle.cm_validate_items.specs.Shared.{item_from}
+use Rattle.cm_lemmas.proofs.Numbers.{lt_true, lt_false}
 
 abbrev pub TypesMove : Type 0
 TypesMove = (i : InstanceTy) (next : ℕ) (t : Ty) → IsCounted (i.first + i.fresh) t → moved_type i next t ≡ replaced (moved_range i.first i.fresh next) t
@@ -19,17 +20,11 @@ TypesMove = (i : InstanceTy) (next : ℕ) (t : Ty) → IsCounted (i.first + i.fr
 abbrev pub FuncsMove : Type 0
 FuncsMove = (i : InstanceTy) (next : ℕ) (f : FuncTy) → IsFuncCounted (i.first + i.fresh) f → moved_func i next f ≡ replaced_func (moved_range i.first i.fresh next) f
 
-below : (a b : ℕ) → a < b → nat_lt a b ≡ true
-below a b h = lt-ltb a b h
-
-not_below : (a b : ℕ) → b ≤ a → nat_lt a b ≡ false
-not_below a b h = le-ltb a b h
-
 module _ (types_move : TypesMove) (funcs_move : FuncsMove) (i : InstanceTy) (next : ℕ) where
   number_told : (n : ℕ) → n < i.first + i.fresh → moved_id i next (numbered n) ≡ moved_range i.first i.fresh next (numbered n)
   number_told n lt = elim (cases_lt n i.first) [
-    | inl own ↦ rw (below n i.first own) refl
-    | inr brings ↦ rw (not_below n i.first brings, lt-leb (i.first + i.fresh) n lt) refl
+    | inl own ↦ rw (lt_true n i.first own) refl
+    | inr brings ↦ rw (lt_false n i.first brings, lt-leb (i.first + i.fresh) n lt) refl
   ]
 
   id_told : (r : ResourceId) → IsAmongFirst (i.first + i.fresh) r → moved_id i next r ≡ moved_range i.first i.fresh next r

@@ -1,14 +1,11 @@
 -- An import of a pair that serves is served.
 use Rattle.std.proofs.Common.{◌≡◌, ◌∙◌, ℕ, zero, suc, ◌+◌, ◌<◌, Bool, true, false, ◌||◌, List, [], ◌∷◌, ◌++◌, length, map, Option, Some, None, refl, sym, ap, subst, arith, option_and_then, slice_get}
 use Rattle.std.specs.BTreeSet.{insert_key}
-use Rattle.std.specs.Cmp.{tied_then}
 use Rattle.std.specs.List.{AllByRecursion, list_any}
 use Rattle.std.specs.Option.{option_map}
-use Rattle.std.specs.Ordering.{is_eq, match_ordering, nat_cmp, ordering_then}
+use Rattle.std.specs.Ordering.{match_ordering, nat_cmp, ordering_then}
 use Rattle.std.specs.declared.cmp.Ordering.{Ordering}
 use Rattle.std.specs.declared.cmp.Ordering.TheVariants.{Less, Equal, Greater}
-use Rattle.std.proofs.lemmas.Bool.{and_parts}
-use Rattle.std.proofs.lemmas.Grind.{common_steps}
 use Rattle.std.proofs.lemmas.Option.{slice_get_within, slice_get-map}
 use Rattle.cm_binary_model.specs.Trees.{SectionTree}
 use Rattle.cm_types.specs.Signatures.{NamedExtern, NamedItem}
@@ -28,28 +25,25 @@ use Rattle.cm_match_model.specs.Alike.{IsLinkedTo}
 use Rattle.cm_match_model.specs.Brought.{OwnsWhatItBrings}
 use Rattle.cm_match.specs.Pairs.{AreTables, IsNoted, IsPairOf, IsServedPair, Pair, pair_cmp, pair_eq}
 use Rattle.cm_match.specs.declared.judged.Judged.{Judged}
-use Rattle.std.specs.Prelude.{IfSome, is_some, not}
+use Rattle.std.specs.Prelude.{IfSome}
 use Rattle.std.proofs.Common.{◌⊎◌, inl, inr, ◌≤◌, take, get_or}
 use Rattle.std.proofs.lemmas.List.{take_more, take_all, length-append}
 use Rattle.cm_match.proofs.MoveLaws.{FuncsMove, TypesMove, items_told}
+use Rattle.cm_lemmas.proofs.Orders.{both_tied, number_exact}
+use Rattle.cm_lemmas.proofs.Lists.{got_at, item_there}
+use Rattle.cm_lemmas.proofs.Options.{some_in, stepped}
 
 -- ---- pairs in a set
-
-same_number : (m n : ℕ) → is_eq (nat_cmp m n) ≡ true → m ≡ n
-same_number m n e = grind (arith, common_steps)
-
-both_tied : (a b : Ordering) → is_eq (ordering_then a b) ≡ true → (is_eq a ≡ true) × (is_eq b ≡ true)
-both_tied a b e = and_parts _ _ (tied_then a b ∙ e)
 
 pub same_pair : (p q : Pair) → pair_eq p q ≡ true → p ≡ q
 same_pair p q e =
     let both = both_tied (ordering_then (nat_cmp p.0.0 q.0.0) (nat_cmp p.0.1 q.0.1)) (ordering_then (nat_cmp p.1.0 q.1.0) (nat_cmp p.1.1 q.1.1)) e in
     let left = both_tied (nat_cmp p.0.0 q.0.0) (nat_cmp p.0.1 q.0.1) both.0 in
     let right = both_tied (nat_cmp p.1.0 q.1.0) (nat_cmp p.1.1 q.1.1) both.1 in
-    ap (λ (a : ℕ). ((a, p.0.1), p.1)) (same_number p.0.0 q.0.0 left.0)
-    ∙ ap (λ (b : ℕ). ((q.0.0, b), p.1)) (same_number p.0.1 q.0.1 left.1)
-    ∙ ap (λ (c : ℕ). (q.0, (c, p.1.1))) (same_number p.1.0 q.1.0 right.0)
-    ∙ ap (λ (d : ℕ). (q.0, (q.1.0, d))) (same_number p.1.1 q.1.1 right.1)
+    ap (λ (a : ℕ). ((a, p.0.1), p.1)) (number_exact p.0.0 q.0.0 left.0)
+    ∙ ap (λ (b : ℕ). ((q.0.0, b), p.1)) (number_exact p.0.1 q.0.1 left.1)
+    ∙ ap (λ (c : ℕ). (q.0, (c, p.1.1))) (number_exact p.1.0 q.1.0 right.0)
+    ∙ ap (λ (d : ℕ). (q.0, (q.1.0, d))) (number_exact p.1.1 q.1.1 right.1)
 
 module _ (P : Pair → Type 0) (p : Pair) where
   pub found : (ps : List Pair) → list_any (pair_eq p) ps ≡ true → AllByRecursion P ps → P p
@@ -70,23 +64,6 @@ module _ (P : Pair → Type 0) (p : Pair) where
       by Greater rest = (all.0, rest)
 
 -- ---- options
-
-some_is : {A : Type 0} {x y : A} → Some x ≡ Some y → x ≡ y
-some_is e = cc
-
-stepped : {A B : Type 0} (o : Option A) (f : A → Option B) (y : B) → option_and_then f o ≡ Some y → (x : A) × (o ≡ Some x) × (f x ≡ Some y)
-stepped None f y h = absurd cc
-stepped (Some x) f y h = (x, refl, h)
-
-item_there : {A : Type 0} (xs : List A) (n : ℕ) → n < length xs → (x : A) × (slice_get xs n ≡ Some x)
-item_there [] n lt = absurd (omega arith)
-item_there (x ∷ xs) zero lt = (x, refl)
-item_there (x ∷ xs) (suc n) lt = item_there xs n (omega (arith, lt))
-
-every_at : {A : Type 0} (P : A → Type 0) (xs : List A) (i : ℕ) (x : A) → AllByRecursion P xs → slice_get xs i ≡ Some x → P x
-every_at P [] i x all e = absurd cc
-every_at P (y ∷ ys) zero x all e = subst P (some_is e) all.0
-every_at P (y ∷ ys) (suc i) x all e = every_at P ys i x all.1 e
 
 -- ---- tables
 
@@ -118,7 +95,7 @@ none_yet tables e = record {
     nothing (suc c) x e = absurd cc
 
 last_at : {A : Type 0} (xs : List A) (x y : A) (c : ℕ) → slice_get (xs ++ x ∷ []) c ≡ Some y → ((slice_get xs c ≡ Some y) × (c < length xs)) ⊎ ((c ≡ length xs) × (x ≡ y))
-last_at [] x y zero e = inr (refl, some_is e)
+last_at [] x y zero e = inr (refl, some_in e)
 last_at [] x y (suc zero) e = absurd cc
 last_at [] x y (suc (suc c)) e = absurd cc
 last_at (z ∷ zs) x y zero e = inl (e, omega arith)
@@ -197,16 +174,16 @@ module _ (counted : Counted) (types_move : TypesMove) (funcs_move : FuncsMove) (
     typed : (import : ℕ) → IsPairOf set tables component import p → (ty : InstanceTy) × (slice_get own.types p.0.1 ≡ Some (instance_type ty)) × IsImportOf own import ty
     typed import q =
         let s = table_of import q in
-        (shared cs tables t component w at).imports import p.0.1 (ap (λ (x : Shared). import_type_in x import) (some_is (sym at ∙ s.1)) ∙ s.2)
+        (shared cs tables t component w at).imports import p.0.1 (ap (λ (x : Shared). import_type_in x import) (some_in (sym at ∙ s.1)) ∙ s.2)
 
     -- the instance that it is linked to
     exports_it : (import : ℕ) (q : IsPairOf set tables component import p) → (ms : List NamedMember) × (slice_get its.instances p.1.1 ≡ Some ms) × (export_at its q.link.export ≡ Some (exported_instance ms))
     exports_it import q =
         let s = table_to import q in
-        (shared cs tables t p.1.0 v to).exports q.link.export p.1.1 (ap (λ (x : Shared). exported_instance_in x q.link.export) (some_is (sym to ∙ s.1)) ∙ s.2)
+        (shared cs tables t p.1.0 v to).exports q.link.export p.1.1 (ap (λ (x : Shared). exported_instance_in x q.link.export) (some_in (sym to ∙ s.1)) ∙ s.2)
 
     counted_type : (ty : InstanceTy) → slice_get own.types p.0.1 ≡ Some (instance_type ty) → IsInstanceCounted (next_resource own) ty
-    counted_type ty is = every_at (IsDefCounted (next_resource own)) own.types p.0.1 (instance_type ty) (counted (sections cs tables t component w at)).types is
+    counted_type ty is = got_at (IsDefCounted (next_resource own)) own.types p.0.1 (instance_type ty) (counted (sections cs tables t component w at)).types is
 
     linked_to : (import : ℕ) (q : IsPairOf set tables component import p) (ty : InstanceTy) (ms : List NamedMember) (is : slice_get own.types p.0.1 ≡ Some (instance_type ty)) (of : IsImportOf own import ty)
         → export_at its q.link.export ≡ Some (exported_instance ms) → IsLinkedTo set component import ty of.next p.1.0 (exported_instance ms)
@@ -227,8 +204,8 @@ module _ (counted : Counted) (types_move : TypesMove) (funcs_move : FuncsMove) (
         let b = typed k r in
         let e = exports_it j q in
         let f = exports_it k r in
-        let one_type : b.0 ≡ a.0 = instance_is (some_is (sym b.1 ∙ a.1)) in
-        let one_instance : f.0 ≡ e.0 = some_is (sym f.1 ∙ e.1) in
+        let one_type : b.0 ≡ a.0 = instance_is (some_in (sym b.1 ∙ a.1)) in
+        let one_instance : f.0 ≡ e.0 = some_in (sym f.1 ∙ e.1) in
         let of : IsImportOf own k a.0 = subst (IsImportOf own k) one_type b.2 in
         alike (sections_of cs) component j k p.1.0 a.0 a.2.next of.next (exported_instance e.0) x y
         (counted_type a.0 a.1).fresh
@@ -272,9 +249,3 @@ now_served set tables component import p q all =
 pub noted : (w : Judged) (o : Option Pair) (Q : Pair → Type 0) → IsNoted w o → IfSome o Q → (p : Pair) × (list_any (pair_eq p) w.served.keys ≡ true) × Q p
 noted w None Q h q = absurd h
 noted w (Some p) Q h q = (p, h, q)
-
--- where it is told that there is nothing, there is nothing
-pub is_none : {A : Type 0} (o : Option A) (told : Bool) → is_some o ≡ not told → told ≡ true → o ≡ None
-is_none None told e t = refl
-is_none (Some x) true e t = absurd cc
-is_none (Some x) false e t = absurd cc

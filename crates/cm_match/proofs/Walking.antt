@@ -1,5 +1,5 @@
 -- The imports of a set, one after another.
-use Rattle.std.proofs.Common.{◌≡◌, ◌⊎◌, inl, inr, ℕ, zero, suc, ◌+◌, ◌<◌, ◌≤◌, List, [], ◌∷◌, ◌++◌, length, take, drop, Option, Some, None, map, slice_get, refl, sym, ap, ◌∙◌, arith, subst, append_assoc, append-nil}
+use Rattle.std.proofs.Common.{◌≡◌, ◌⊎◌, inl, inr, ℕ, zero, suc, ◌+◌, ◌<◌, ◌≤◌, List, [], ◌∷◌, ◌++◌, length, take, drop, Option, Some, None, slice_get, refl, sym, ap, ◌∙◌, arith, subst, append_assoc, append-nil}
 use Rattle.std.specs.List.{AllByRecursion}
 use Rattle.std.specs.Option.{option_map}
 use Rattle.std.specs.Prelude.{option_to_list}
@@ -21,19 +21,13 @@ use Rattle.cm_match_serving.specs.cm_validate_spaces.Checked as checked
 use Rattle.cm_match_serving.specs.cm_validate_spaces.declared.checked.Checked.{Checked}
 use Rattle.cm_match_model.specs.Links.{CanBeLinked, IsLinkFault, plan_of}
 use Rattle.cm_match_model.specs.Serving.{IsExternUnserved, IsUnserved, item_under}
-use Rattle.cm_match_serving.specs.Sets.{sections_of, set_of}
-use Rattle.cm_validate_model.specs.Spaces.{spaces_of}
+use Rattle.cm_match_serving.specs.Sets.{set_of}
 use Rattle.cm_match.specs.Walks.{HasServed, IsFirstOf, IsWalkFault, Serves, Stops}
 use Rattle.cm_match.proofs.Follow.{space_at}
+use Rattle.cm_match_serving.proofs.Judging.{set_length}
+use Rattle.cm_lemmas.proofs.Options.{some_is}
 
 -- ---- lists
-
-some_is : {A : Type 0} (x y : A) → Some x ≡ Some y → x ≡ y
-some_is x y e = cc
-
-pub mapped_length : {A B : Type 0} (f : A → B) (xs : List A) → length (map f xs) ≡ length xs
-mapped_length f [] = refl
-mapped_length f (x ∷ xs) = ap suc (mapped_length f xs)
 
 taken_all : {A : Type 0} (xs : List A) → take (length xs) xs ≡ xs
 taken_all [] = refl
@@ -169,9 +163,6 @@ stopped set c n x s plan r e f h i =
     }
 
 -- ---- the components of a set
-
-pub set_length : (cs : List Checked) → length (set_of cs) ≡ length cs
-set_length cs = mapped_length spaces_of (sections_of cs) ∙ mapped_length checked.sections_in cs
 
 pub count_of : (cs : List Checked) (c : ℕ) (p : Checked) (s : Spaces) (k : ℕ) → slice_get cs c ≡ Some p → k ≡ length (checked.spaces_in p).imports → slice_get (set_of cs) c ≡ Some s → k ≡ length s.imports
 count_of cs c p s k e f g = f ∙ ap (λ t. length t.imports) (some_is (checked.spaces_in p) s (sym (space_at cs c ∙ ap (option_map checked.spaces_in) e) ∙ g))

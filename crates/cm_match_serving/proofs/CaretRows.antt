@@ -16,19 +16,17 @@ use Rattle.cm_match_serving.specs.contracts.series.KindOrd.TheImpl as kind_ord
 use Rattle.cm_match_serving.specs.declared.series.Kind.TheVariants as kind
 use Rattle.cm_match_serving.specs.Readings.{fits_read, is_below, is_in_row, is_prerelease, leading, prereleases_row, releases_row, row_cmp, row_of, unversioned_row, version_or_zero, Row}
 use Rattle.cm_match_model.specs.Fitting.{allows}
-
--- the tests of an order, by those of its parts
-tied_numbers : (a b : ℕ) → is_eq (nat_cmp a b) ≡ (a == b)
-tied_numbers a b = grind (arith, common_steps)
+use Rattle.cm_lemmas.proofs.Bools.{and_true}
+use Rattle.cm_lemmas.proofs.Orders.{same_number}
 
 pub before_or : (a b : ℕ) (o : Ordering) → is_lt (ordering_then (nat_cmp a b) o) ≡ ((a == b) && is_lt o || nat_lt a b)
 before_or a b o = grind (arith, common_steps)
 
 pub row_tied : (a b : Row) → is_eq (row_cmp a b) ≡ (bytes_eq a.0 b.0 && (is_eq ((kind_ord.ghosts).cmp a.1 b.1) && ((a.2 == b.2) && ((a.3 == b.3) && (a.4 == b.4)))))
 row_tied a b =
-    let patch = tied_numbers a.4 b.4 in
-    let minor = sym (tied_then (nat_cmp a.3 b.3) _) ∙ ap (λ t. t && is_eq (nat_cmp a.4 b.4)) (tied_numbers a.3 b.3) ∙ ap (λ t. (a.3 == b.3) && t) patch in
-    let major = sym (tied_then (nat_cmp a.2 b.2) _) ∙ ap (λ t. t && is_eq (ordering_then (nat_cmp a.3 b.3) (nat_cmp a.4 b.4))) (tied_numbers a.2 b.2) ∙ ap (λ t. (a.2 == b.2) && t) minor in
+    let patch = same_number a.4 b.4 in
+    let minor = sym (tied_then (nat_cmp a.3 b.3) _) ∙ ap (λ t. t && is_eq (nat_cmp a.4 b.4)) (same_number a.3 b.3) ∙ ap (λ t. (a.3 == b.3) && t) patch in
+    let major = sym (tied_then (nat_cmp a.2 b.2) _) ∙ ap (λ t. t && is_eq (ordering_then (nat_cmp a.3 b.3) (nat_cmp a.4 b.4))) (same_number a.2 b.2) ∙ ap (λ t. (a.2 == b.2) && t) minor in
     let sort = sym (tied_then ((kind_ord.ghosts).cmp a.1 b.1) _) ∙ ap (λ t. is_eq ((kind_ord.ghosts).cmp a.1 b.1) && t) major in
     sym (tied_then (slice_cmp nat_cmp a.0 b.0) _)
     ∙ ap (λ t. is_eq (slice_cmp nat_cmp a.0 b.0) && t) sort
@@ -74,10 +72,6 @@ leads v = elim (cases_Bool (nat_lt 0 v.0)) [
 pub and_false : (b : Bool) → (b && false) ≡ false
 and_false true = refl
 and_false false = refl
-
-and_true : (b : Bool) → (b && true) ≡ b
-and_true true = refl
-and_true false = refl
 
 -- rows of other kinds
 kinds_apart : (a b : Row) → is_eq ((kind_ord.ghosts).cmp a.1 b.1) ≡ false → is_eq (row_cmp a b) ≡ false

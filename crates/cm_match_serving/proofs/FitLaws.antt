@@ -17,6 +17,7 @@ use Rattle.cm_match_model.specs.Fitting.{allows}
 use Rattle.cm_match_model.proofs.Compatible.{allows_itself, compatible_is, version_read}
 use Rattle.cm_match_serving.proofs.CaretRows.{caret_is, rows_apart, unversioned_is}
 use Rattle.cm_match_serving.proofs.Splits.{split}
+use Rattle.cm_lemmas.proofs.Bools.{or_false}
 
 -- ---- names
 
@@ -82,10 +83,6 @@ or_within false b c f g = refl
 no_fixed : (b : Bool) → b ≡ not b → ⊥
 no_fixed true e = cc e
 no_fixed false e = cc e
-
-or_false : (b : Bool) → (b || false) ≡ b
-or_false true = refl
-or_false false = refl
 
 -- the name without the version, and the version, of a tree that has them
 bare : NameTree → List ℕ

@@ -9,6 +9,7 @@ use Rattle.cm_match_serving.specs.Components.{Told}
 use Rattle.cm_match_model.specs.Origins.{AreOrigins, LeadEarlier, Links, Table, definition_of, exported_resource, item_name, origin_by, resource_at, resource_of, served}
 use Rattle.cm_match_serving.specs.ToldSets.{Describes, linked_at, served_at, source_by}
 use Rattle.cm_match_model.proofs.OriginLaws.{served_earlier}
+use Rattle.cm_lemmas.proofs.Options.{is_none, some_mapped}
 
 -- what serves a resource, by what it is
 abbrev pub serving : List Spaces → Links → ResourceId → ResourceDef → Option ResourceId
@@ -47,10 +48,6 @@ defined_told told set links d r (Some (brought i k)) = named_told told set links
 pub served_told : (told : Told) (set : List Spaces) (links : Links) → Describes told set links → (r : ResourceId) → served_at told r ≡ served_by set links r
 served_told told set links d r =
     ap (option_and_then (λ source. option_and_then (linked_at told r.component) source)) (d.sources r) ∙ defined_told told set links d r (definition_of set r)
-
-some_mapped : {A B : Type 0} (f : A → B) (o : Option A) → is_some (option_map f o) ≡ is_some o
-some_mapped f None = refl
-some_mapped f (Some x) = refl
 
 pub exists_told : (told : Told) (set : List Spaces) (links : Links) → Describes told set links → (r : ResourceId) → is_some (told.source r) ≡ is_some (definition_of set r)
 exists_told told set links d r = ap is_some (d.sources r) ∙ some_mapped (source_by set r.component) (definition_of set r)
@@ -92,12 +89,8 @@ stay_by set links table r (Some (brought i k)) h s = ap (λ o. Some (unwrap_or o
 pub stay : (set : List Spaces) (links : Links) (table : Table) → AreOrigins set links table → (r : ResourceId) → option_and_then table (served_by set links r) ≡ None → is_some (definition_of set r) ≡ true → table r ≡ Some r
 stay set links table a r h s = a r ∙ stay_by set links table r (definition_of set r) h s
 
-none_is : {A : Type 0} (o : Option A) → is_some o ≡ false → o ≡ None
-none_is None h = refl
-none_is (Some x) h = cc h
-
 pub absent : (set : List Spaces) (links : Links) (table : Table) → AreOrigins set links table → (r : ResourceId) → is_some (definition_of set r) ≡ false → table r ≡ None
-absent set links table a r h = none_is (table r) (some_table set links table a r ∙ h)
+absent set links table a r h = is_none (table r) (some_table set links table a r ∙ h)
 
 none_there : {A : Type 0} (o : Option A) → ((x : A) → o ≡ Some x → ⊥) → o ≡ None
 none_there None h = refl

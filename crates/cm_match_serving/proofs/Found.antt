@@ -1,6 +1,6 @@
 -- What is read of the components of a set.
 use Rattle.std.proofs.Common.{◌≡◌, ◌∙◌, ℕ, ◌<◌, List, [], Option, Some, None, map, slice_get, refl, sym, ap, option_and_then}
-use Rattle.std.proofs.lemmas.Option.{slice_get-get_or, slice_get-map, slice_get_past}
+use Rattle.std.proofs.lemmas.Option.{slice_get-map}
 use Rattle.std.specs.Borrow.{Bor}
 use Rattle.std.specs.declared.alloc.Global.{Global}
 use Rattle.std.specs.declared.rc.Rc.{Rc}
@@ -30,11 +30,7 @@ use Rattle.cm_match_model.specs.declared.component.Link.{Link}
 use Rattle.cm_match_model.specs.Imports.{export_in, import_in}
 use Rattle.cm_match_serving.specs.Sets.{funcs_at, set_of, types_at}
 use Rattle.cm_match_serving.proofs.Rows.{set_at}
-
--- what a look-up gives
-pub got : {X : Type 0} (xs : List X) (i : ℕ) (r : Option (Bor X)) → IsItemAt xs i r → option_map (λ x. x.now) r ≡ slice_get xs i
-got xs i None h = sym (slice_get_past xs i h.3)
-got xs i (Some x) h = sym (slice_get-get_or xs i x.now h.3.0 ∙ ap Some (sym h.1))
+use Rattle.cm_lemmas.proofs.Lists.{got}
 
 pub got_by : {X Y : Type 0} (f : X → Y) (xs : List X) (i : ℕ) (r : Option (Bor X)) → IsItemAt xs i r → option_map (λ x. f x.now) r ≡ option_map f (slice_get xs i)
 got_by f xs i r h = twice r ∙ ap (option_map f) (got xs i r h)

@@ -1,6 +1,6 @@
 -- What calls answer, of parts and of what they are parts of.
 use Rattle.std.proofs.Common.{◌≡◌, ◌∙◌, ◌↔◌, ℕ, suc, ◌<◌, Bool, true, false, List, [], ◌∷◌, length, Option, Some, None, IsTrue, refl, sym, ap, subst, arith, option_and_then, slice_get}
-use Rattle.std.specs.Prelude.{Result, Ok, Err, IfOk, if◌then◌else◌}
+use Rattle.std.specs.Prelude.{if◌then◌else◌}
 use Rattle.std.specs.Option.{option_map}
 use Rattle.std.proofs.lemmas.Option.{slice_get_within}
 use Rattle.cm_types.specs.Types.{FuncTy, Ty}
@@ -21,14 +21,7 @@ use Rattle.cm_match_model.specs.Links.{IsNotServed, IsNotServedBy}
 use Rattle.cm_match_model.specs.Serving.{IsExternUnserved, IsSameFunc, IsSameType, IsUnserved, standing}
 use Rattle.cm_match_serving.specs.Sets.{set_of}
 use Rattle.cm_match_serving.specs.Answers.{Judges, JudgesExtern, JudgesImport, JudgesItem}
-
--- what holds of an answer
-pub if_ok_more : {T E : Type 0} (r : Result T E) (P Q : T → Type 0) → IfOk r P → ((v : T) → P v → Q v) → IfOk r Q
-if_ok_more (Ok v) P Q h f = f v h
-if_ok_more (Err e) P Q h f = tt
-
-pub some_is : {A : Type 0} (x y : A) → Some x ≡ Some y → x ≡ y
-some_is x y e = cc
+use Rattle.cm_lemmas.proofs.Options.{some_is}
 
 pub judged : (b : Bool) (P : Type 0) (r : LinkReason) → IsTrue b ↔ P → Judges P r (if b then None else Some r)
 judged true P r h = h.0 refl
@@ -102,7 +95,7 @@ linked set c n x l there is = ap (option_and_then (λ x. link_of set (import_at 
 
 -- ---- components that are there
 
-set_length : (cs : List Checked) → length (set_of cs) ≡ length cs
+pub set_length : (cs : List Checked) → length (set_of cs) ≡ length cs
 set_length [] = refl
 set_length (c ∷ cs) = ap suc (set_length cs)
 

@@ -20,9 +20,7 @@ use Rattle.cm_match_serving.specs.Sets.{funcs_at, set_of, types_at}
 use Rattle.cm_match_serving.specs.Knowing.{AreUnknown, KnowsAll}
 use Rattle.cm_match_serving.specs.Tables.{AreKnown}
 use Rattle.cm_match_serving.specs.declared.tables.Tables.{Tables}
-
-some_is : {A : Type 0} (x y : A) → Some x ≡ Some y → x ≡ y
-some_is x y e = cc
+use Rattle.cm_lemmas.proofs.Options.{some_is}
 
 -- ---- lists
 

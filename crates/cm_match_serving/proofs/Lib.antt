@@ -1,8 +1,8 @@
 mod Known
 mod Same
-mod Judging
+pub mod Judging
 mod Walks
-mod Rows
+pub mod Rows
 mod Links
 mod Found
 mod GreatestLaws

@@ -9,14 +9,12 @@ use Rattle.cm_validate_model.specs.Spaces.{Spaces}
 use Rattle.cm_match_model.specs.Origins.{LeadEarlier}
 use Rattle.cm_match_model.specs.declared.component.Link.{Link}
 use Rattle.cm_match_model.specs.Imports.{candidates, import_at, import_in, link_of, links_of, only_link}
+use Rattle.cm_lemmas.proofs.Options.{some_is}
 
 only_one : (es : List NamedExport) (a b : ℕ) → only es ≡ candidate.One a b → only_link es ≡ Some (record { component = a; export = b })
 only_one [] a b h = cc h
 only_one (e ∷ []) a b h = cc h
 only_one (e ∷ f ∷ es) a b h = cc h
-
-some_is : {A : Type 0} (x y : A) → Some x ≡ Some y → x ≡ y
-some_is x y e = cc
 
 linked_by : (set : List Spaces) (c i a b : ℕ) (o : Option NamedExtern) → option_map (λ x. only (candidates set c x)) o ≡ Some (candidate.One a b)
     → option_and_then (λ x. link_of set (import_at c i x)) o ≡ Some (record { component = a; export = b })

@@ -1,7 +1,6 @@
 -- Lists of what is said of each component of a set.
 use Rattle.std.proofs.Common.{◌≡◌, ◌∙◌, ℕ, zero, suc, ◌+◌, ◌<◌, ◌≤◌, List, [], ◌∷◌, ◌++◌, Option, Some, None, length, get_or, map, take, slice_get, refl, sym, ap, arith, append_assoc, length-take}
-use Rattle.std.proofs.lemmas.List.{take_more}
-use Rattle.std.proofs.lemmas.Option.{slice_get-get_or, slice_get-map, slice_get_within, get_or_from_slice_get}
+use Rattle.std.proofs.lemmas.Option.{slice_get-get_or, slice_get-map, slice_get_within}
 use Rattle.std.specs.Option.{option_map}
 use Rattle.cm_match_model.specs.Fitting.{NamedExport, named_export}
 use Rattle.cm_validate_model.specs.Definitions as definitions
@@ -10,6 +9,8 @@ use Rattle.cm_validate_spaces.specs.Checked.{spaces_in}
 use Rattle.cm_validate_spaces.specs.declared.checked.Checked.{Checked}
 use Rattle.cm_match_model.specs.Imports.{all_exports_from, exports_before, exports_from}
 use Rattle.cm_match_serving.specs.Sets.{set_of}
+use Rattle.cm_lemmas.proofs.Lists.{map_length, nil_right, take_all, take_one}
+use Rattle.cm_match_serving.proofs.Judging.{set_length}
 
 -- what is said of each of these, numbered from here on
 abbrev pub rows_from : {A : Type 0} → (ℕ → Spaces → A) → ℕ → List Spaces → List A
@@ -26,9 +27,6 @@ set_at [] zero = refl
 set_at [] (suc k) = refl
 set_at (c ∷ cs) zero = refl
 set_at (c ∷ cs) (suc k) = set_at cs k
-
-pub taken : {A : Type 0} (xs : List A) (n : ℕ) (x : A) → slice_get xs n ≡ Some x → take (n + 1) xs ≡ take n xs ++ x ∷ []
-taken xs n x h = take_more xs n x (slice_get_within xs n x h) ∙ ap (λ y. take n xs ++ y ∷ []) (get_or_from_slice_get xs n x x h)
 
 pub taken_length : {A : Type 0} (xs : List A) (n : ℕ) (x : A) → slice_get xs n ≡ Some x → 0 + length (take n xs) ≡ n
 taken_length xs n x h = let lt = slice_get_within xs n x h in simp length-take (omega arith)
@@ -51,7 +49,7 @@ rows_last f n (t ∷ ts) s =
 
 pub rows_next : {A : Type 0} (f : ℕ → Spaces → A) (set : List Spaces) (n : ℕ) (s : Spaces) → slice_get set n ≡ Some s → rows_from f 0 (take (n + 1) set) ≡ rows_from f 0 (take n set) ++ f n s ∷ []
 rows_next f set n s h =
-    ap (rows_from f 0) (taken set n s h) ∙ rows_last f 0 (take n set) s
+    ap (rows_from f 0) (take_one set n s h) ∙ rows_last f 0 (take n set) s
     ∙ ap (λ k. rows_from f 0 (take n set) ++ f k s ∷ []) (taken_length set n s h)
 
 pub row_at : {A : Type 0} (f : ℕ → Spaces → A) (n : ℕ) (ss : List Spaces) (k : ℕ) → slice_get (rows_from f n ss) k ≡ option_map (f (n + k)) (slice_get ss k)
@@ -61,16 +59,6 @@ row_at f n (s ∷ ss) zero = ap (λ m. Some (f m s)) (omega arith)
 row_at f n (s ∷ ss) (suc k) =
     let same : (n + 1) + k ≡ n + suc k = omega arith in
     row_at f (n + 1) ss k ∙ ap (λ m. option_map (f m) (slice_get ss k)) same
-
-pub take_all : {A : Type 0} (xs : List A) (n : ℕ) → length xs ≤ n → take n xs ≡ xs
-take_all [] zero h = refl
-take_all [] (suc n) h = refl
-take_all (x ∷ xs) zero h = absurd (omega (arith, h))
-take_all (x ∷ xs) (suc n) h = ap (λ ys. x ∷ ys) (take_all xs n (omega (arith, h)))
-
-set_length : (cs : List Checked) → length (set_of cs) ≡ length cs
-set_length [] = refl
-set_length (c ∷ cs) = ap suc (set_length cs)
 
 -- the rows of all components
 pub all_rows : {A R : Type 0} (f : ℕ → Spaces → A) (view : R → A) (cs : List Checked) (n : ℕ) (rows : List R) → length cs ≤ n
@@ -91,10 +79,6 @@ exports_last component n (y ∷ ys) x =
     ap (λ es. named_export component n y.name ∷ es) (exports_last component (n + 1) ys x)
     ∙ ap (λ k. named_export component n y.name ∷ (exports_from component (n + 1) ys ++ named_export component k x.name ∷ [])) same
 
-map_length : {A B : Type 0} (f : A → B) (xs : List A) → length (map f xs) ≡ length xs
-map_length f [] = refl
-map_length f (x ∷ xs) = ap suc (map_length f xs)
-
 -- one export more
 pub exports_next : {A : Type 0} (before : List NamedExport) (component : ℕ) (f : A → definitions.NamedExport) (xs : List A) (n : ℕ) (x : A) → slice_get xs n ≡ Some x
     → (before ++ exports_from component 0 (map f (take n xs))) ++ named_export component n (f x).name ∷ [] ≡ before ++ exports_from component 0 (map f (take (n + 1) xs))
@@ -102,15 +86,11 @@ exports_next before component f xs n x h =
     let es = exports_from component 0 (map f (take n xs)) in
     let places : 0 + length (map f (take n xs)) ≡ n = ap (λ k. 0 + k) (map_length f (take n xs)) ∙ taken_length xs n x h in
     append_assoc before es (named_export component n (f x).name ∷ [])
-    ∙ sym (ap (λ ys. before ++ ys) (ap (λ ys. exports_from component 0 (map f ys)) (taken xs n x h) ∙ ap (exports_from component 0) (mapped_last f (take n xs) x) ∙ exports_last component 0 (map f (take n xs)) (f x)
+    ∙ sym (ap (λ ys. before ++ ys) (ap (λ ys. exports_from component 0 (map f ys)) (take_one xs n x h) ∙ ap (exports_from component 0) (mapped_last f (take n xs) x) ∙ exports_last component 0 (map f (take n xs)) (f x)
     ∙ ap (λ k. es ++ named_export component k (f x).name ∷ []) places))
 
-nothing_more : {A : Type 0} (xs : List A) → xs ++ [] ≡ xs
-nothing_more [] = refl
-nothing_more (x ∷ xs) = ap (λ ys. x ∷ ys) (nothing_more xs)
-
 all_last : (n : ℕ) (ss : List Spaces) (s : Spaces) → all_exports_from n (ss ++ s ∷ []) ≡ all_exports_from n ss ++ exports_from (n + length ss) 0 s.exports
-all_last n [] s = nothing_more (exports_from n 0 s.exports) ∙ ap (λ k. exports_from k 0 s.exports) (omega arith)
+all_last n [] s = nil_right (exports_from n 0 s.exports) ∙ ap (λ k. exports_from k 0 s.exports) (omega arith)
 all_last n (t ∷ ts) s =
     let same : (n + 1) + length ts ≡ n + length (t ∷ ts) = omega arith in
     ap (λ es. exports_from n 0 t.exports ++ es) (all_last (n + 1) ts s ∙ ap (λ k. all_exports_from (n + 1) ts ++ exports_from k 0 s.exports) same)
@@ -119,5 +99,5 @@ all_last n (t ∷ ts) s =
 -- the exports of one component more
 pub before_next : (set : List Spaces) (n : ℕ) (s : Spaces) → slice_get set n ≡ Some s → exports_before set (n + 1) ≡ exports_before set n ++ exports_from n 0 s.exports
 before_next set n s h =
-    ap (all_exports_from 0) (taken set n s h) ∙ all_last 0 (take n set) s
+    ap (all_exports_from 0) (take_one set n s h) ∙ all_last 0 (take n set) s
     ∙ ap (λ k. all_exports_from 0 (take n set) ++ exports_from k 0 s.exports) (taken_length set n s h)

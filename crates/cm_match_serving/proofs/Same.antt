@@ -1,6 +1,5 @@
 -- Types of two components are the same where their numbers are.
-use Rattle.std.proofs.Common.{◌≡◌, ◌∙◌, ◌==◌, ◌↔◌, ℕ, Bool, true, List, [], ◌∷◌, Option, Some, None, IsTrue, sym, ap, subst, arith}
-use Rattle.std.proofs.lemmas.Bool.Decides.{nat_tests}
+use Rattle.std.proofs.Common.{◌≡◌, ◌∙◌, ◌↔◌, ℕ, Bool, List, [], ◌∷◌, Option, Some, None, IsTrue, sym, ap, subst}
 use Rattle.cm_types.specs.Types.{FuncTy, Ty}
 use Rattle.cm_types_arena.specs.Replaced.{Standing, replaced, replaced_func}
 use Rattle.cm_types_numbers.specs.Numbering.{AreFuncNumbers, AreNumbers, Numbering, number, number_func}
@@ -27,19 +26,6 @@ type_stays old new stay s x n is = ap (head_of None) (stay s (x ∷ []) (n ∷ [
 pub func_stays : (old new : Numbering) → ((s : Standing) (fs : List FuncTy) (ns : List ℕ) → AreFuncNumbers old s fs ns → AreFuncNumbers new s fs ns) → (s : Standing) (f : FuncTy) (n : ℕ) → number_func old (replaced_func s f) ≡ Some n → number_func new (replaced_func s f) ≡ Some n
 unfolding head_of
 func_stays old new stay s f n is = ap (head_of None) (stay s (f ∷ []) (n ∷ []) (ap (λ (o : Option ℕ). o ∷ []) is))
-
--- a test of two numbers tells what their equality does
-test_is : (m n : ℕ) → (m == n) ≡ true → m ≡ n
-test_is m n e = grind (arith, nat_tests)
-
-eq_self : (m : ℕ) → (m == m) ≡ true
-eq_self m = grind (arith, nat_tests)
-
-pub test_tells : (m n : ℕ) (same : Bool) (P : Type 0) → same ≡ (m == n) → (m ≡ n) ↔ P → IsTrue same ↔ P
-test_tells m n same P is tells = (
-  λ t. tells.0 (test_is m n (sym is ∙ t)),
-  λ p. is ∙ subst (λ (k : ℕ). (m == k) ≡ true) (tells.1 p) (eq_self m),
-)
 
 -- ---- sides of a pair
 

@@ -1,24 +1,18 @@
 -- When two rows are one.
-use Rattle.std.proofs.Common.{◌≡◌, ◌∙◌, ℕ, true, false, refl, sym, ap, inl, inr}
+use Rattle.std.proofs.Common.{◌≡◌, ◌∙◌, true, false, refl, sym, ap, inl, inr}
 use Rattle.std.proofs.lemmas.Bool.{cases_Bool}
 use Rattle.std.proofs.lemmas.Cmp.{nat_cmp_total, nat_list_cmp_total, tied_itself}
 use Rattle.std.proofs.lemmas.Map.Text.{is_eq-slice_cmp}
 use Rattle.std.proofs.lemmas.Slice.Eq.{bytes_eq-Decides}
-use Rattle.std.specs.Cmp.{Equal-is}
 use Rattle.std.specs.Cmp.Lexicographic.{slice_cmp}
-use Rattle.std.specs.FinMap.{nat_cmp-IsAntisymmetric}
 use Rattle.std.specs.Ordering.{is_eq, nat_cmp, ordering_then}
 use Rattle.std.specs.declared.cmp.Ordering.{Ordering}
-use Rattle.std.specs.declared.cmp.Ordering.TheVariants.{Less, Equal, Greater}
+use Rattle.std.specs.declared.cmp.Ordering.TheVariants.{Equal}
 use Rattle.cm_match_serving.specs.contracts.series.KindOrd.TheImpl as kind_ord
 use Rattle.cm_match_serving.specs.declared.series.Kind.{Kind}
 use Rattle.cm_match_serving.specs.declared.series.Kind.TheVariants as kind
 use Rattle.cm_match_serving.specs.Readings.{Row, row_cmp}
-
-then_both : (r s : Ordering) → is_eq (ordering_then r s) ≡ true → (is_eq r ≡ true) × (is_eq s ≡ true)
-then_both Less s e = cc e
-then_both Equal s e = (refl, e)
-then_both Greater s e = cc e
+use Rattle.cm_lemmas.proofs.Orders.{number_exact, both_tied}
 
 both_then : (r s : Ordering) → r ≡ Equal → is_eq s ≡ true → is_eq (ordering_then r s) ≡ true
 both_then r s e h = rw e h
@@ -39,16 +33,13 @@ kind_itself kind.Unversioned = refl
 kind_itself kind.Releases = refl
 kind_itself kind.Prereleases = refl
 
-number_exact : (a b : ℕ) → is_eq (nat_cmp a b) ≡ true → a ≡ b
-number_exact a b e = nat_cmp-IsAntisymmetric a b ((Equal-is (nat_cmp a b)).0 e)
-
 -- rows that are not told apart are one
 pub row_exact : (a b : Row) → is_eq (row_cmp a b) ≡ true → a ≡ b
 row_exact a b e =
-    let name = then_both (slice_cmp nat_cmp a.0 b.0) _ e in
-    let sort = then_both ((kind_ord.ghosts).cmp a.1 b.1) _ name.1 in
-    let major = then_both (nat_cmp a.2 b.2) _ sort.1 in
-    let minor = then_both (nat_cmp a.3 b.3) _ major.1 in
+    let name = both_tied (slice_cmp nat_cmp a.0 b.0) _ e in
+    let sort = both_tied ((kind_ord.ghosts).cmp a.1 b.1) _ name.1 in
+    let major = both_tied (nat_cmp a.2 b.2) _ sort.1 in
+    let minor = both_tied (nat_cmp a.3 b.3) _ major.1 in
     let names : a.0 ≡ b.0 = (bytes_eq-Decides a.0 b.0).0 (sym (is_eq-slice_cmp a.0 b.0) ∙ name.0) in
     ap (λ n. (n, a.1, a.2, a.3, a.4)) names
     ∙ ap (λ k. (b.0, k, a.2, a.3, a.4)) (kind_exact a.1 b.1 sort.0)

@@ -1,5 +1,5 @@
 -- The exports of names without versions, and one export more.
-use Rattle.std.proofs.Common.{◌≡◌, ◌≢◌, ◌∙◌, ◌⊎◌, ℕ, zero, suc, Bool, true, false, ◌||◌, List, [], ◌∷◌, ◌++◌, length, set, slice_get, Some, None, refl, sym, ap, filter, inl, inr}
+use Rattle.std.proofs.Common.{◌≡◌, ◌≢◌, ◌∙◌, ℕ, zero, suc, Bool, true, false, ◌||◌, List, [], ◌∷◌, ◌++◌, length, set, slice_get, Some, None, refl, sym, ap, filter, inl, inr}
 use Rattle.std.proofs.lemmas.Bool.{cases_Bool, cases_eq}
 use Rattle.std.proofs.lemmas.Slice.Eq.{bytes_eq-Decides}
 use Rattle.std.specs.BTreeMap.{BTreeMap}
@@ -24,14 +24,10 @@ use Rattle.cm_match_serving.specs.ExportTables.{Answers}
 use Rattle.cm_match_serving.proofs.Additions.{only_filtered}
 use Rattle.cm_match_serving.proofs.GreatestLaws.{and_none}
 use Rattle.cm_match_serving.proofs.SeriesRows.{row_exact}
+use Rattle.cm_lemmas.proofs.Lists.{absent, get_front, get_last, old_or_last}
+use Rattle.cm_lemmas.proofs.Options.{none_some, some_is}
 
 -- ---- lists
-
-some_is : {A : Type 0} (x y : A) → Some x ≡ Some y → x ≡ y
-some_is x y e = cc
-
-none_some : {A P : Type 0} (x : A) → None ≡ Some x → P
-none_some x e = absurd cc
 
 set_same : {A : Type 0} (xs : List A) (k : ℕ) (x y : A) → slice_get xs k ≡ Some y → slice_get (set xs k x) k ≡ Some x
 set_same [] k x y e = none_some y e
@@ -44,47 +40,6 @@ set_other (z ∷ xs) zero zero x d = absurd (d refl)
 set_other (z ∷ xs) zero (suc n) x d = refl
 set_other (z ∷ xs) (suc k) zero x d = refl
 set_other (z ∷ xs) (suc k) (suc n) x d = set_other xs k n x (λ e. d (ap (λ m. suc m) e))
-
-front_there : {A : Type 0} (xs ys : List A) (n : ℕ) (x : A) → slice_get xs n ≡ Some x → slice_get (xs ++ ys) n ≡ Some x
-front_there [] ys n x e = none_some x e
-front_there (y ∷ xs) ys zero x e = e
-front_there (y ∷ xs) ys (suc n) x e = front_there xs ys n x e
-
-last_there : {A : Type 0} (xs : List A) (x : A) → slice_get (xs ++ x ∷ []) (length xs) ≡ Some x
-last_there [] x = refl
-last_there (y ∷ xs) x = last_there xs x
-
-pub one_longer : {A : Type 0} (xs : List A) (x : A) → length (xs ++ x ∷ []) ≡ suc (length xs)
-one_longer [] x = refl
-one_longer (y ∷ xs) x = ap (λ n. suc n) (one_longer xs x)
-
-abbrev OldOrLast : List (List ℕ) → List ℕ → ℕ → List ℕ → Type 0
-OldOrLast ts t n u = (slice_get ts n ≡ Some u) ⊎ ((n ≡ length ts) × (u ≡ t))
-
-old_or_last : (ts : List (List ℕ)) (t : List ℕ) (n : ℕ) (u : List ℕ) → slice_get (ts ++ t ∷ []) n ≡ Some u → OldOrLast ts t n u
-old_or_last [] t zero u e = inr (refl, sym (some_is t u e))
-old_or_last [] t (suc n) u e = none_some u e
-old_or_last (x ∷ ts) t zero u e = inl e
-old_or_last (x ∷ ts) t (suc n) u e = elim (old_or_last ts t n u e) [
-  | inl h ↦ inl h
-  | inr h ↦ inr (ap (λ m. suc m) h.0, h.1)
-]
-
-any_there : (ts : List (List ℕ)) (t : List ℕ) (n : ℕ) → slice_get ts n ≡ Some t → list_any (bytes_eq t) ts ≡ true
-any_there [] t n e = none_some t e
-any_there (x ∷ ts) t zero e = rw ((bytes_eq-Decides t x).1 (sym (some_is x t e))) refl
-any_there (x ∷ ts) t (suc n) e = here (bytes_eq t x) (any_there ts t n e)
-  where
-    here : (b : Bool) → list_any (bytes_eq t) ts ≡ true → (b || list_any (bytes_eq t) ts) ≡ true
-    here true h = refl
-    here false h = h
-
--- a text is another one than those of a list that has it not
-absent : (ts : List (List ℕ)) (t u : List ℕ) (n : ℕ) → list_any (bytes_eq t) ts ≡ false → slice_get ts n ≡ Some u → bytes_eq u t ≡ false
-absent ts t u n a e = elim (cases_Bool (bytes_eq u t)) [
-  | inl y ↦ let f : list_any (bytes_eq t) ts ≡ true = any_there ts t n (e ∙ ap (λ (v : List ℕ). Some v) ((bytes_eq-Decides u t).0 y)) in absurd (let g = sym a ∙ f in cc)
-  | inr m ↦ m
-]
 
 both_false : (a b : Bool) → (a || b) ≡ false → (a ≡ false) × (b ≡ false)
 both_false true b e = absurd cc
@@ -158,13 +113,13 @@ module _ (es : List NamedExport) (e : NamedExport) (m : List ℕ) (is : IsOf e m
     there = λ name n f. elim (old_or_last (texts_of old.names) m n name (ap (λ ts. slice_get ts n) (sym names) ∙ f)) [
       | inl g ↦
           ap (λ cs. slice_get cs n) now
-          ∙ front_there old.candidates.items (candidate.One e.component e.number ∷ []) n (only_named name es) (t.there name n g)
+          ∙ get_front old.candidates.items (candidate.One e.component e.number ∷ []) n (only_named name es) (t.there name n g)
           ∙ ap (λ (x : Candidate). Some x) (sym (other_name name (absent (texts_of old.names) m name n fresh g)))
       | inr g ↦
           let none : only_named name es ≡ candidate.None = ap (λ x. only_named x es) g.1 ∙ t.none m fresh in
           ap (λ cs. slice_get cs n) now
           ∙ ap (slice_get (old.candidates.items ++ candidate.One e.component e.number ∷ [])) (g.0 ∙ sym long)
-          ∙ last_there old.candidates.items (candidate.One e.component e.number)
+          ∙ get_last old.candidates.items (candidate.One e.component e.number)
           ∙ ap (λ x. Some (and_also x (candidate.One e.component e.number))) (sym none)
           ∙ ap (λ (x : Candidate). Some x) (sym (same_name name ((bytes_eq-Decides name m).1 g.1)))
     ];

@@ -21,10 +21,7 @@ use Rattle.cm_validate_entries.specs.declared.spaces.ComponentSpaces.{ComponentS
 use Rattle.cm_validate_canons.specs.Spaces.{Answers, Stand, TellsNext, count_after}
 use Rattle.cm_validate_canons.specs.Types.{types_in, funcs_in}
 use Rattle.cm_validate_canons.specs.declared.types.LaidTypes.{LaidTypes}
-
-pub is_none : {A : Type 0} (o : Option A) → is_some o ≡ false → o ≡ None
-is_none None e = refl
-is_none (Some x) e = absurd cc
+use Rattle.cm_lemmas.proofs.Options.{is_none}
 
 -- types stay where an item adds none
 abbrev pub TypesStay : Type 0

@@ -1,5 +1,5 @@
 -- What types pass.
-use Rattle.std.proofs.Common.{◌≡◌, ◌+◌, ◌-◌, ◌<◌, ◌≤◌, ℕ, Bool, true, false, ◌||◌, List, [], ◌∷◌, map, length, drop, slice_index_or, Option, Some, None, nat_le, not, refl, ap, sym, ◌∙◌, add-one, arith, drop-cons, rules}
+use Rattle.std.proofs.Common.{◌≡◌, ◌+◌, ◌-◌, ◌<◌, ◌≤◌, ℕ, Bool, true, false, ◌||◌, List, [], ◌∷◌, map, length, drop, slice_index_or, Option, Some, None, nat_le, not, refl, ap, sym, ◌∙◌, add-one, arith, drop-cons}
 use Rattle.std.proofs.lemmas.Bool.Decides.{nat_tests}
 use Rattle.std.proofs.lemmas.List.{drop_all, length-append}
 use Rattle.std.proofs.Math.ListN.{get_or-map}
@@ -11,7 +11,6 @@ use Rattle.cm_layout.specs.Flattening.{copies, flat_of, flat_of_fields, flat_of_
 use Rattle.cm_layout.specs.Shapes.{LayoutTy, layout_at}
 use Rattle.cm_layout.specs.Layouts.{layout_of}
 use Rattle.cm_layout.specs.declared.heads.Head.{Head}
-use Rattle.cm_layout.specs.declared.layouts.Form.{the_lemmas}
 use Rattle.cm_layout.specs.declared.layouts.Layout.{Layout, out-Layout}
 use Rattle.cm_types_arena.specs.Summaries.{summary_of}
 use Rattle.cm_types_arena.specs.TypeDefs.{params_type}
@@ -23,6 +22,7 @@ use Rattle.cm_types_arena.specs.Arena.{field_types}
 use Rattle.cm_types_arena.specs.TypeDefs.{type_at}
 use Rattle.cm_validate_model.specs.Options.{is_pointer}
 use Rattle.cm_validate_canons.specs.Passing.{params_passed, result_passed, widths_at}
+use Rattle.cm_layout.proofs.LayoutLemmas.{seen_head}
 
 -- ---- pointers
 
@@ -141,9 +141,6 @@ same_room w n room left le is = grind (arith, nat_tests)
 
 none_fits : (room : ℕ) → nat_le 0 room ≡ true
 none_fits room = grind (arith, nat_tests)
-
-seen_head : (l : Layout) → (layout_of l).head ≡ (out-Layout l).head
-seen_head l = search (rules, the_lemmas)
 
 pub seen_width : (l : Layout) (t : LayoutTy) → layout_of l ≡ t → (out-Layout l).head.width ≡ t.head.width
 seen_width l t e = sym (ap (λ (h : Head). h.width) (seen_head l)) ∙ ap (λ (x : LayoutTy). x.head.width) e

@@ -16,14 +16,11 @@ use Rattle.cm_validate_model.specs.Rules.{canon_broken, func_ty_at, lowered_brok
 use Rattle.cm_validate_model.specs.Spaces.{Spaces, func_ty_in}
 use Rattle.cm_validate_model.specs.TypeRules.{has_sort}
 use Rattle.cm_validate_model.specs.declared.sorts.TypeSort.TheVariants as sort
+use Rattle.cm_validate_model.proofs.ReasonsLaws.{lesser_none}
 
 -- the least of both lists is the lesser of what is least in each
 abbrev pub LeastOfBoth : Type 0
 LeastOfBoth = (qs rs : List ValidReason) → least (qs ++ rs) ≡ lesser (least qs) (least rs)
-
-lesser_none : (p : Option ValidReason) → lesser p None ≡ p
-lesser_none None = refl
-lesser_none (Some r) = refl
 
 one_of : (b : Bool) (a r : ValidReason) → is_some (if b then Some a else Some r) ≡ true
 one_of true a r = refl

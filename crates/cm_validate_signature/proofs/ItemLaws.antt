@@ -1,10 +1,11 @@
 -- The items that members are.
-use Rattle.std.proofs.Common.{◌≡◌, ℕ, zero, suc, add-one, ◌+◌, ◌<◌, ◌≤◌, Bool, true, false, ◌&&◌, List, [], ◌∷◌, ◌++◌, length, map, take, get_or, Some, None, refl, sym, ap, ◌∙◌, slice_get, arith, subst, Result, Ok, Err, IfOk}
+use Rattle.std.proofs.Common.{◌≡◌, ℕ, zero, suc, add-one, ◌+◌, ◌<◌, ◌≤◌, Bool, true, ◌&&◌, List, [], ◌∷◌, ◌++◌, length, map, take, get_or, Some, None, refl, sym, ap, ◌∙◌, slice_get, arith, subst, Result, Ok, Err, IfOk}
 use Rattle.std.proofs.lemmas.List.{map-append, take_all, take_more}
 use Rattle.std.specs.Borrow.{Bor}
 use Rattle.std.specs.List.{list_all}
 use Rattle.std.specs.Option.{is_some}
 use Rattle.std.specs.Prelude.{not}
+use Rattle.std.proofs.lemmas.Bool.{and_from}
 use Rattle.cm_types.specs.Signatures.{NamedItem}
 use Rattle.cm_types.specs.Types.{Ty, FuncTy}
 use Rattle.cm_types_arena.specs.Replaced.{replaced, replaced_func}
@@ -22,6 +23,8 @@ use Rattle.cm_validate_entries.specs.declared.entries.FuncEntry.TheVariants as f
 use Rattle.cm_validate_entries.specs.declared.entries.MemberEntry.{MemberEntry}
 use Rattle.cm_validate_entries.specs.declared.entries.MemberEntry.TheVariants as member
 use Rattle.cm_validate_signature.specs.Items.{member_desc, member_item, moved_desc, moved_item}
+use Rattle.cm_lemmas.proofs.Bools.{both_left, both_right}
+use Rattle.cm_lemmas.proofs.Lists.{take_next}
 
 -- ---- lists that grow by one
 
@@ -35,14 +38,6 @@ map_next {A} {B} f xs i x out lt is e =
 
 pub map_end : {A B : Type 0} (f : A → B) (xs : List A) (i : ℕ) (out : List B) → length xs ≤ i → out ≡ map f (take i xs) → out ≡ map f xs
 map_end f xs i out le e = e ∙ ap (map f) (take_all i xs le)
-
-take_next : {A : Type 0} (xs : List A) (i : ℕ) (x : A) → slice_get xs i ≡ Some x → take (suc i) xs ≡ take i xs ++ x ∷ []
-take_next [] i x e = absurd cc
-take_next (y ∷ ys) zero x e = ap (λ z. z ∷ []) (some_is e)
-  where
-    some_is : Some y ≡ Some x → y ≡ x
-    some_is f = cc
-take_next (y ∷ ys) (suc i) x e = ap (λ zs. y ∷ zs) (take_next ys i x e)
 
 pub map_at : {A B : Type 0} (f : A → B) (xs : List A) (i : ℕ) (x : A) (out : List B) → slice_get xs i ≡ Some x → out ≡ map f (take i xs) → out ++ f x ∷ [] ≡ map f (take (i + 1) xs)
 map_at {A} {B} f xs i x out at e =
@@ -75,20 +70,8 @@ members_are types funcs (m ∷ ms) =
     ap (λ (is : List NamedItem). item_of types funcs (member_item m) ∷ is) (members_are types funcs ms)
     ∙ ap (λ (is : List NamedItem). is ++ items_of_members (map (named_member types funcs) ms)) (desc_is types funcs m.0.now m.1)
 
-and_left : (a b : Bool) → (a && b) ≡ true → a ≡ true
-and_left true b e = refl
-and_left false b e = e
-
-and_right : (a b : Bool) → (a && b) ≡ true → b ≡ true
-and_right true b e = e
-and_right false b e = absurd cc
-
-both : (a b : Bool) → a ≡ true → b ≡ true → (a && b) ≡ true
-both true b is e = e
-both false b is e = is
-
 desc_there : (types funcs : ℕ) (m : MemberEntry) → is_member_there types funcs m ≡ true → is_desc_there types funcs (member_desc m) ≡ true
-desc_there types funcs (member.Func (func.Lifted core_func ty options)) h = and_left (is_there funcs ty) (not (is_some ty.by)) h
+desc_there types funcs (member.Func (func.Lifted core_func ty options)) h = both_left (is_there funcs ty) (not (is_some ty.by)) h
 desc_there types funcs (member.Func (func.Imported import number ty)) h = h
 desc_there types funcs (member.Value p) h = h
 desc_there types funcs (member.Resource n) h = h
@@ -96,9 +79,9 @@ desc_there types funcs (member.Resource n) h = h
 pub members_there : (types funcs : ℕ) (ms : List (Bor (List ℕ) × MemberEntry)) → list_all (λ e. is_member_there types funcs e.1) ms ≡ true → are_items_there types funcs (map member_item ms) ≡ true
 members_there types funcs [] h = refl
 members_there types funcs (m ∷ ms) h =
-    both (is_desc_there types funcs (member_desc m.1)) (are_items_there types funcs (map member_item ms))
-    (desc_there types funcs m.1 (and_left (is_member_there types funcs m.1) (list_all (λ e. is_member_there types funcs e.1) ms) h))
-    (members_there types funcs ms (and_right (is_member_there types funcs m.1) (list_all (λ e. is_member_there types funcs e.1) ms) h))
+    and_from (is_desc_there types funcs (member_desc m.1)) (are_items_there types funcs (map member_item ms))
+    (desc_there types funcs m.1 (both_left (is_member_there types funcs m.1) (list_all (λ e. is_member_there types funcs e.1) ms) h))
+    (members_there types funcs ms (both_right (is_member_there types funcs m.1) (list_all (λ e. is_member_there types funcs e.1) ms) h))
 
 -- ---- an instance that is imported
 

@@ -1,13 +1,10 @@
 -- What was made of instances, by their numbers.
-use Rattle.std.proofs.Common.{◌≡◌, ℕ, zero, suc, Bool, true, false, ◌&&◌, cond, List, [], ◌∷◌, inl, inr, length, Option, Some, None, IfSome, Result, Ok, Err, IfOk, get_or, ◌<◌, refl, sym, ap, ◌∙◌, slice_get, subst, nat_cmp}
+use Rattle.std.proofs.Common.{◌≡◌, ℕ, Bool, cond, List, inl, inr, length, Option, Some, None, IfSome, Result, Ok, Err, IfOk, get_or, ◌<◌, refl, sym, ap, ◌∙◌, slice_get, subst, nat_cmp}
 use Rattle.std.specs.Prelude.{MatchResult}
 use Rattle.std.specs.BTreeMap.{BTreeMap, get}
-use Rattle.std.specs.List.{list_all}
 use Rattle.std.specs.Option.{option_map}
 use Rattle.std.specs.Ordering.{is_eq}
 use Rattle.std.specs.declared.alloc.Global.{Global}
-use Rattle.std.specs.declared.cmp.Ordering.{Ordering}
-use Rattle.std.specs.declared.cmp.Ordering.TheVariants.{Less, Equal, Greater}
 use Rattle.std.specs.declared.rc.Rc.{Rc}
 use Rattle.std.proofs.lemmas.Bool.{cases_Bool}
 use Rattle.std.proofs.lemmas.Map.Lookups.{exact_unsigned}
@@ -25,14 +22,9 @@ use Rattle.cm_validate_entries.specs.declared.spaces.ExportEntry.{ExportEntry}
 use Rattle.cm_validate_entries.specs.declared.spaces.ExportedEntry.TheVariants as export
 use Rattle.cm_validate_signature.specs.Made.{AreExportsOf, AreMade, IsInstanceNumber, IsTypeOf}
 use Rattle.cm_validate_signature.specs.declared.made.Made.{Made}
-
-is_equal : (o : Ordering) → is_eq o ≡ true → o ≡ Equal
-is_equal Less e = absurd cc
-is_equal Equal e = refl
-is_equal Greater e = absurd cc
-
-some_is : {A : Type 0} (x y : A) → Some x ≡ Some y → x ≡ y
-some_is x y e = cc
+use Rattle.cm_lemmas.proofs.Orders.{is_equal}
+use Rattle.cm_lemmas.proofs.Options.{some_is}
+use Rattle.cm_lemmas.proofs.Lists.{all_found}
 
 members_are_one : (ms ns : List NamedMember) → exported_instance ms ≡ exported_instance ns → ms ≡ ns
 members_are_one ms ns e = cc
@@ -71,19 +63,6 @@ if_some : (o : Option ℕ) (P : ℕ → Type 0) → ((r : ℕ) → o ≡ Some r 
 if_some (Some r) P f = f r refl
 if_some None P f = tt
 
-left : (a b : Bool) → (a && b) ≡ true → a ≡ true
-left true b e = refl
-left false b e = e
-
-right : (a b : Bool) → (a && b) ≡ true → b ≡ true
-right true b e = e
-right false b e = absurd cc
-
-true_at : {A : Type 0} (test : A → Bool) (xs : List A) (k : ℕ) (x : A) → list_all test xs ≡ true → slice_get xs k ≡ Some x → test x ≡ true
-true_at test [] k x all at = absurd cc
-true_at test (y ∷ ys) zero x all at = subst (λ z. test z ≡ true) (some_is y x at) (left (test y) (list_all test ys) all)
-true_at test (y ∷ ys) (suc k) x all at = true_at test ys k x (right (test y) (list_all test ys) all) at
-
 pub numbered_at : (types : List Ty) (funcs : List FuncTy) (s : Spaces) (w : Shared) (xs : List ExportEntry) (k : ℕ) (x : ExportEntry) (number : Option ℕ)
     → k < length xs → x ≡ get_or xs k x → number ≡ exported_instance_in w k → AreShared s w → AreExportsOf types funcs s xs → IsInstanceNumber types funcs s number x.def
 numbered_at types funcs s w xs k x number lt is_x is_number shared exports =
@@ -95,5 +74,5 @@ numbered_at types funcs s w xs k x number lt is_x is_number shared exports =
       is = subst (λ (o : Option ℕ). IfSome o P) (sym is_number) (if_some (exported_instance_in w k) P (λ r e.
           let h = shared.exports k r e in
           (h.0, h.1, some_is (exported_def types funcs x.def) (exported_instance h.0) (sym (ap (option_map (λ (d : NamedExport). d.def)) there) ∙ h.2))));
-      there = true_at (λ (y : ExportEntry). is_exported_there (length types) (length funcs) y.def) xs k x exports.there at;
+      there = all_found (λ (y : ExportEntry). is_exported_there (length types) (length funcs) y.def) xs k x exports.there at;
     }

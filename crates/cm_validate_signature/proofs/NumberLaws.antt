@@ -1,19 +1,13 @@
 -- The numbers of imports and exports, and the names of the items of those that are instances.
 use Rattle.std.proofs.Common.{◌≡◌, ℕ, ◌<◌, List, [], ◌∷◌, map, Option, Some, None, refl, sym, ap, ◌∙◌, subst, slice_get}
-use Rattle.std.specs.Option.{option_and_then, option_map}
+use Rattle.std.specs.Option.{option_map}
 use Rattle.std.proofs.lemmas.Option.{slice_get-map, slice_get_within}
 use Rattle.cm_types.specs.Signatures.{NamedExtern, NamedItem, instance}
 use Rattle.cm_types.specs.Types.{FuncTy, Ty}
-use Rattle.cm_types_arena.specs.Externs.{extern_desc_of, extern_of}
-use Rattle.cm_types_arena.specs.Instances.{item_of, replaced_item}
-use Rattle.cm_types_arena.specs.Placed.{moved_by}
+use Rattle.cm_types_arena.specs.Externs.{extern_of}
 use Rattle.cm_types_arena.specs.declared.externs.Extern.{Extern}
-use Rattle.cm_types_arena.specs.declared.externs.ExternDesc.{ExternDesc}
-use Rattle.cm_types_arena.specs.declared.externs.ExternDesc.TheVariants as extern
-use Rattle.cm_types_arena.specs.declared.instances.Item.{Item}
-use Rattle.cm_types_arena.specs.Replaced.{Standing}
 use Rattle.cm_types_signatures.specs.Listed.{names_of_desc, names_of_named}
-use Rattle.cm_types_signatures.specs.Numbered.{AreAlike, names_of_extern, names_of_items, number_in}
+use Rattle.cm_types_signatures.specs.Numbered.{AreAlike, names_of_extern, number_in}
 use Rattle.cm_validate_items.specs.Shared.{AreShared, IsImportOf, exported_instance_in, export_at, import_type_in, item_from}
 use Rattle.cm_validate_items.specs.declared.shared.Shared.{Shared}
 use Rattle.cm_validate_model.specs.Definitions.{ExportDef, InstanceTy, NamedExport, NamedMember, exported_instance, instance_type}
@@ -21,39 +15,18 @@ use Rattle.cm_validate_model.specs.Spaces.{Spaces, items_of_members}
 use Rattle.cm_validate_signature.specs.Exports.{exported_extern, exported_type}
 use Rattle.cm_validate_signature.specs.Numbers.{AreNumbers}
 use Rattle.cm_validate_signature.proofs.ExternLaws.{AreShown}
+use Rattle.cm_types_signatures.proofs.NumberLaws.{names_there}
+use Rattle.cm_lemmas.proofs.Options.{some_is, joined_some}
 
 -- ---- numbers at their places
 
-some_is : {A : Type 0} (x y : A) → Some x ≡ Some y → x ≡ y
-some_is x y e = cc
-
-some_of : (o : Option (Option ℕ)) (n : ℕ) → option_and_then (λ m. m) o ≡ Some n → o ≡ Some (Some n)
-some_of None n e = absurd cc
-some_of (Some o) n e = ap Some e
-
 number_told : (at : ℕ → Option ℕ) (count : ℕ) (numbers : List (Option ℕ)) (place n : ℕ) → AreNumbers at count numbers → number_in numbers place ≡ Some n → at place ≡ Some n
 number_told at count numbers place n are told =
-    let here : slice_get numbers place ≡ Some (Some n) = some_of (slice_get numbers place) n told in
+    let here : slice_get numbers place ≡ Some (Some n) = joined_some (slice_get numbers place) n told in
     let lt : place < count = subst (λ m. place < m) are.count_is (slice_get_within numbers place (Some n) here) in
     some_is (at place) (Some n) (sym (are.each place lt) ∙ here)
 
 -- ---- names of items
-
--- items keep their names where they are placed and replaced
-placed_names : (types : List Ty) (funcs : List FuncTy) (s : Standing) (items : List Item) → map (λ i. i.name) (map (replaced_item s) (map (item_of types funcs) items)) ≡ map (λ (i : Item). i.name) items
-placed_names types funcs s [] = refl
-placed_names types funcs s (i ∷ items) = ap (λ (l : List (List ℕ)). i.name ∷ l) (placed_names types funcs s items)
-
-desc_names : (types : List Ty) (funcs : List FuncTy) (d : ExternDesc) → names_of_desc (extern_desc_of types funcs d) ≡ names_of_items d
-desc_names types funcs (extern.Func p) = refl
-desc_names types funcs (extern.Instance ty by) = placed_names types funcs (moved_by by) ty.value.items.items
-
-of_one : (types : List Ty) (funcs : List FuncTy) (e : Option Extern) → names_of_named (option_map (extern_of types funcs) e) ≡ names_of_extern e
-of_one types funcs None = refl
-of_one types funcs (Some e) = desc_names types funcs e.desc
-
-names_there : (types : List Ty) (funcs : List FuncTy) (es : List Extern) (place : ℕ) → names_of_named (slice_get (map (extern_of types funcs) es) place) ≡ names_of_extern (slice_get es place)
-names_there types funcs es place = ap names_of_named (slice_get-map (extern_of types funcs) es place) ∙ of_one types funcs (slice_get es place)
 
 -- what holds of names holds where externs are these
 alike_by : (types : List Ty) (funcs : List FuncTy) (es : List Extern) (xs : List NamedExtern) (a b : ℕ) → map (extern_of types funcs) es ≡ xs

@@ -1,7 +1,7 @@
 -- What calls answer for items.
 use Rattle.std.specs.List.{AllByRecursion}
 use Rattle.std.specs.Prelude.{is_some}
-use Rattle.std.proofs.Common.{◌≡◌, ℕ, true, false, List, [], ◌++◌, map, Option, Some, None, refl, sym, ap, ◌∙◌, subst, append-nil, MatchOption}
+use Rattle.std.proofs.Common.{◌≡◌, ℕ, true, List, [], ◌++◌, map, Option, Some, None, refl, sym, ap, ◌∙◌, subst, append-nil, MatchOption}
 use Rattle.cm_types.specs.Types.{Ty, FuncTy}
 use Rattle.cm_layout_placed.specs.Placed.{AreOfFirst, layouts_in}
 use Rattle.cm_layout.specs.Shapes.{LayoutTy}
@@ -131,10 +131,6 @@ types_at w es e there s at = record {
   types_there = there;
   settled = subst (AllByRecursion (IsEntrySettled (types_in w) (funcs_in w))) (sym e) at.settled;
 }
-
-pub is_none : {A : Type 0} (o : Option A) → is_some o ≡ false → o ≡ None
-is_none None e = refl
-is_none (Some x) e = absurd cc
 
 pub faulty_answer : (x : Item) (w : IndexSpaces) (r : Option ValidReason) → is_some r ≡ true → ((s : Spaces) → IsAt w s → r ≡ least (broken s x)) → Answers x w r w
 faulty_answer x w None e fault = absurd cc

@@ -37,6 +37,7 @@ use Rattle.cm_validate_spaces.specs.declared.made.MadeFunc.{MadeFunc}
 use Rattle.cm_validate_spaces.specs.declared.spaces.IndexSpaces.{IndexSpaces}
 use Rattle.cm_validate_spaces.proofs.AnswerLaws.{either, none_more}
 use Rattle.cm_validate_spaces.proofs.MadeLaws.{tells, tells_before, tells_last, there_with, told_by}
+use Rattle.cm_lemmas.proofs.Lists.{nil_front}
 
 -- ---- more layouts
 
@@ -147,10 +148,6 @@ no_reason (r ∷ rs) e = absurd (some_least r (least rs) e)
     some_least r None e = absurd cc
     some_least r (Some q) e = one (nat_le (reason_number r) (reason_number q)) r q e
 
-front_nil : {A : Type 0} (xs ys : List A) → xs ++ ys ≡ [] → xs ≡ []
-front_nil [] ys e = refl
-front_nil (x ∷ xs) ys e = absurd cc
-
 lowered_some : (os : List CanonOption) (d : Option FuncDef) → found (lowered_broken os) d ≡ [] → option_and_then (lower_func os) d ≡ None → ⊥
 lowered_some os None e n = absurd cc
 lowered_some os (Some (lifted f ty o)) e n = absurd cc
@@ -169,10 +166,10 @@ sorts_at s i e = ap (found (λ t. unless (has_sort sort.Resource t) reason.Wrong
 
 never_none : (s : Spaces) (c : CanonTree) → count_made c ≡ 1 → canon_broken s c ≡ [] → canon_core_func s c ≡ None → ⊥
 never_none s (lift f os i) one e n = omega (arith, one)
-never_none s (lower f os) one e n = lowered_some os (slice_get s.funcs f) (front_nil (found (lowered_broken os) (slice_get s.funcs f)) (options_broken s os) (front_nil (found (lowered_broken os) (slice_get s.funcs f) ++ options_broken s os) (no_post_return_broken os) e)) n
-never_none s (resource_new i) one e n = resource_some making (slice_get s.types i) (sorts_at s i (front_nil (resource_broken s i) (if_found (own_resource_broken s) (resource_at s i)) e)) n
+never_none s (lower f os) one e n = lowered_some os (slice_get s.funcs f) (nil_front (found (lowered_broken os) (slice_get s.funcs f)) (options_broken s os) (nil_front (found (lowered_broken os) (slice_get s.funcs f) ++ options_broken s os) (no_post_return_broken os) e)) n
+never_none s (resource_new i) one e n = resource_some making (slice_get s.types i) (sorts_at s i (nil_front (resource_broken s i) (if_found (own_resource_broken s) (resource_at s i)) e)) n
 never_none s (resource_drop i) one e n = resource_some dropping (slice_get s.types i) (sorts_at s i e) n
-never_none s (resource_rep i) one e n = resource_some reading (slice_get s.types i) (sorts_at s i (front_nil (resource_broken s i) (if_found (own_resource_broken s) (resource_at s i)) e)) n
+never_none s (resource_rep i) one e n = resource_some reading (slice_get s.types i) (sorts_at s i (nil_front (resource_broken s i) (if_found (own_resource_broken s) (resource_at s i)) e)) n
 
 pub nothing_answer : (w : IndexSpaces) (c : CanonTree) → Makes w c None None → Answers (canon_item c) w None w
 nothing_answer w c makes = record {

@@ -1,5 +1,5 @@
 -- What tells the core functions that canonical definitions made.
-use Rattle.std.proofs.Common.{◌≡◌, ℕ, zero, suc, ◌≤◌, ◌<◌, Bool, true, false, ◌&&◌, List, [], ◌∷◌, ◌++◌, length, map, Option, Some, None, refl, sym, ap, ◌∙◌, arith, subst, length-append}
+use Rattle.std.proofs.Common.{◌≡◌, ℕ, zero, suc, ◌≤◌, ◌<◌, true, false, ◌&&◌, List, [], ◌∷◌, ◌++◌, length, map, Option, Some, None, refl, sym, ap, ◌∙◌, arith, subst, length-append}
 use Rattle.std.proofs.lemmas.Bool.{ltb-true, lt-ltb}
 use Rattle.std.proofs.lemmas.List.{get_or_append_left, length-map, map-append}
 use Rattle.std.proofs.lemmas.Option.{slice_get-map}
@@ -21,17 +21,9 @@ use Rattle.cm_validate_spaces.specs.Made.{Tells, is_made_there, made_def}
 use Rattle.cm_validate_spaces.specs.declared.entries.ComponentEntries.{ComponentEntries}
 use Rattle.cm_validate_spaces.specs.declared.made.MadeFunc.{MadeFunc}
 use Rattle.cm_validate_spaces.specs.declared.made.MadeFunc.TheVariants as made
-
-some_is : {A : Type 0} (x y : A) → Some x ≡ Some y → x ≡ y
-some_is x y e = cc
-
-left : (a b : Bool) → (a && b) ≡ true → a ≡ true
-left true b e = refl
-left false b e = e
-
-right : (a b : Bool) → (a && b) ≡ true → b ≡ true
-right true b e = e
-right false b e = absurd cc
+use Rattle.cm_lemmas.proofs.Lists.{get_front, get_last}
+use Rattle.cm_lemmas.proofs.Bools.{both_left, both_right}
+use Rattle.cm_lemmas.proofs.Options.{some_is}
 
 -- ---- one that tells them
 
@@ -122,19 +114,10 @@ func_count e s are =
 -- the type of one that is in the list is there
 pub one_there : (n : ℕ) (ms : List MadeFunc) (i : ℕ) (m : MadeFunc) → list_all (is_made_there n) ms ≡ true → slice_get ms i ≡ Some m → is_made_there n m ≡ true
 one_there n [] i m h e = absurd cc
-one_there n (x ∷ ms) zero m h e = ap (is_made_there n) (sym (some_is x m e)) ∙ left (is_made_there n x) (list_all (is_made_there n) ms) h
-one_there n (x ∷ ms) (suc i) m h e = one_there n ms i m (right (is_made_there n x) (list_all (is_made_there n) ms) h) e
+one_there n (x ∷ ms) zero m h e = ap (is_made_there n) (sym (some_is x m e)) ∙ both_left (is_made_there n x) (list_all (is_made_there n) ms) h
+one_there n (x ∷ ms) (suc i) m h e = one_there n ms i m (both_right (is_made_there n x) (list_all (is_made_there n) ms) h) e
 
 -- ---- one more
-
-get_before : {A : Type 0} (xs ys : List A) (n : ℕ) (x : A) → slice_get xs n ≡ Some x → slice_get (xs ++ ys) n ≡ Some x
-get_before [] ys n x e = absurd cc
-get_before (y ∷ xs) ys zero x e = e
-get_before (y ∷ xs) ys (suc n) x e = get_before xs ys n x e
-
-get_last : {A : Type 0} (xs : List A) (x : A) → slice_get (xs ++ x ∷ []) (length xs) ≡ Some x
-get_last [] x = refl
-get_last (y ∷ xs) x = get_last xs x
 
 module _ (funcs : List FuncTy) (ms : List MadeFunc) (m : MadeFunc) (tell : ℕ → CoreFuncDef) (t : Tells tell (map (made_def funcs) (ms ++ m ∷ []))) where
   both : Tells tell (map (made_def funcs) ms ++ made_def funcs m ∷ [])
@@ -142,7 +125,7 @@ module _ (funcs : List FuncTy) (ms : List MadeFunc) (m : MadeFunc) (tell : ℕ �
 
   pub tells_before : Tells tell (map (made_def funcs) ms)
   tells_before = record {
-    told = λ n d e. both.told n d (get_before (map (made_def funcs) ms) (made_def funcs m ∷ []) n d e);
+    told = λ n d e. both.told n d (get_front (map (made_def funcs) ms) (made_def funcs m ∷ []) n d e);
     no_guests = t.no_guests;
   }
 
@@ -165,8 +148,8 @@ kept funcs more (made.Reading n) h = refl
 all_kept : (funcs more : List FuncTy) (ms : List MadeFunc) → list_all (is_made_there (length funcs)) ms ≡ true → map (made_def (funcs ++ more)) ms ≡ map (made_def funcs) ms
 all_kept funcs more [] h = refl
 all_kept funcs more (m ∷ ms) h =
-    ap (λ (d : CoreFuncDef). d ∷ map (made_def (funcs ++ more)) ms) (kept funcs more m (left (is_made_there (length funcs) m) (list_all (is_made_there (length funcs)) ms) h))
-    ∙ ap (λ (ds : List CoreFuncDef). made_def funcs m ∷ ds) (all_kept funcs more ms (right (is_made_there (length funcs) m) (list_all (is_made_there (length funcs)) ms) h))
+    ap (λ (d : CoreFuncDef). d ∷ map (made_def (funcs ++ more)) ms) (kept funcs more m (both_left (is_made_there (length funcs) m) (list_all (is_made_there (length funcs)) ms) h))
+    ∙ ap (λ (ds : List CoreFuncDef). made_def funcs m ∷ ds) (all_kept funcs more ms (both_right (is_made_there (length funcs) m) (list_all (is_made_there (length funcs)) ms) h))
 
 pub defs_kept : (f g : List FuncTy) (ms : List MadeFunc) → Extends f g → list_all (is_made_there (length f)) ms ≡ true → map (made_def g) ms ≡ map (made_def f) ms
 defs_kept f g ms k h = subst (λ (u : List FuncTy). map (made_def u) ms ≡ map (made_def f) ms) (sym k.1) (all_kept f k.0 ms h)
@@ -180,8 +163,8 @@ there_more m n (made.Reading k) le h = refl
 all_there_more : (m n : ℕ) (xs : List MadeFunc) → m ≤ n → list_all (is_made_there m) xs ≡ true → list_all (is_made_there n) xs ≡ true
 all_there_more m n [] le h = refl
 all_there_more m n (x ∷ xs) le h =
-    ap (λ b. b && list_all (is_made_there n) xs) (there_more m n x le (left (is_made_there m x) (list_all (is_made_there m) xs) h))
-    ∙ all_there_more m n xs le (right (is_made_there m x) (list_all (is_made_there m) xs) h)
+    ap (λ b. b && list_all (is_made_there n) xs) (there_more m n x le (both_left (is_made_there m x) (list_all (is_made_there m) xs) h))
+    ∙ all_there_more m n xs le (both_right (is_made_there m x) (list_all (is_made_there m) xs) h)
 
 pub still_there : (f g : List FuncTy) (ms : List MadeFunc) → Extends f g → list_all (is_made_there (length f)) ms ≡ true → list_all (is_made_there (length g)) ms ≡ true
 still_there f g ms k h = all_there_more (length f) (length g) ms (subst (λ (u : List FuncTy). length f ≤ length u) (sym k.1) (omega (arith, length-append f k.0))) h
@@ -189,5 +172,5 @@ still_there f g ms k h = all_there_more (length f) (length g) ms (subst (λ (u :
 pub there_with : (n : ℕ) (ms : List MadeFunc) (m : MadeFunc) → list_all (is_made_there n) ms ≡ true → is_made_there n m ≡ true → list_all (is_made_there n) (ms ++ m ∷ []) ≡ true
 there_with n [] m h e = ap (λ b. b && true) e
 there_with n (x ∷ ms) m h e =
-    ap (λ b. b && list_all (is_made_there n) (ms ++ m ∷ [])) (left (is_made_there n x) (list_all (is_made_there n) ms) h)
-    ∙ there_with n ms m (right (is_made_there n x) (list_all (is_made_there n) ms) h) e
+    ap (λ b. b && list_all (is_made_there n) (ms ++ m ∷ [])) (both_left (is_made_there n x) (list_all (is_made_there n) ms) h)
+    ∙ there_with n ms m (both_right (is_made_there n x) (list_all (is_made_there n) ms) h) e

@@ -1,37 +1,15 @@
 -- Types are a set: two proofs that two types are equal are the same, since a test tells equal types
 -- apart from others.
-use Rattle.std.proofs.Common.{◌≡◌, ℕ, ◌==◌, ◌&&◌, Bool, true, false, List, [], ◌∷◌, refl, sym, ap, ◌∙◌}
+use Rattle.std.proofs.Common.{◌≡◌, ◌==◌, ◌&&◌, Bool, true, false, refl, sym, ap, ◌∙◌}
 use Rattle.std.specs.Str.{bytes_eq}
 use Rattle.std.specs.Cmp.Lexicographic.{bytes_decides}
 use Rattle.std.proofs.lemmas.Bool.{and_parts, and_from, eqb-true, eq-eqb, false≢true}
 use mathlib.Core.HLevel.{hedberg, Discrete}
-use Rattle.cm_types.specs.declared.resource.ResourceId.{ResourceId}
 use Rattle.cm_types.specs.Resources.{same_resource}
-use Rattle.cm_types.specs.Types.{Ty, Fields, Cases, FieldsKind, CasesKind, Width, bits_8, bits_16, bits_32, bits_64, bool, signed, unsigned, char, string, list, fixed_list, fields, cases, flags, own, borrow, no_fields, field, no_cases, plain, carrying, record_type, tuple_type, variant_type, enum_type, option_type, result_type}
-
-abbrev same_width : Width → Width → Bool
-same_width bits_8 bits_8 = true
-same_width bits_16 bits_16 = true
-same_width bits_32 bits_32 = true
-same_width bits_64 bits_64 = true
-same_width _ _ = false
-
-abbrev same_fields_kind : FieldsKind → FieldsKind → Bool
-same_fields_kind record_type record_type = true
-same_fields_kind tuple_type tuple_type = true
-same_fields_kind _ _ = false
-
-abbrev same_cases_kind : CasesKind → CasesKind → Bool
-same_cases_kind variant_type variant_type = true
-same_cases_kind enum_type enum_type = true
-same_cases_kind option_type option_type = true
-same_cases_kind result_type result_type = true
-same_cases_kind _ _ = false
-
-abbrev same_labels : List (List ℕ) → List (List ℕ) → Bool
-same_labels [] [] = true
-same_labels (k ∷ ks) (l ∷ ls) = bytes_eq k l && same_labels ks ls
-same_labels _ _ = false
+use Rattle.cm_types.specs.Types.{Ty, Fields, Cases, bool, signed, unsigned, char, string, list, fixed_list, fields, cases, flags, own, borrow, no_fields, field, no_cases, plain, carrying}
+use Rattle.cm_types.proofs.TypesLaws.{cases_kind_same, cases_kind_sound, fields_kind_same, fields_kind_sound, same_cases_kind, same_fields_kind, same_width, width_same, width_sound}
+use Rattle.cm_lemmas.proofs.Lists.{same_text, labels_same, labels_sound, same_labels}
+use Rattle.cm_types.proofs.ResourceLaws.{resource_same, resource_sound}
 
 abbrev mutual
   -- whether two types are the same
@@ -63,65 +41,6 @@ abbrev mutual
       bytes_eq k l && same_type t u && same_cases cs ds
   same_cases _ _ = false
 
-resource_sound : (r s : ResourceId) → same_resource r s ≡ true → r ≡ s
-resource_sound r s h =
-    let p = and_parts _ _ h in
-    ap (λ n. record { component = n; number = r.number }) (eqb-true r.component s.component p.0)
-    ∙ ap (λ n. record { component = s.component; number = n }) (eqb-true r.number s.number p.1)
-
-resource_same : (r : ResourceId) → same_resource r r ≡ true
-resource_same r = and_from _ _ (eq-eqb r.component r.component refl) (eq-eqb r.number r.number refl)
-
-width_sound : (j k : Width) → same_width j k ≡ true → j ≡ k
-width_sound bits_8 bits_8 h = refl
-width_sound bits_16 bits_16 h = refl
-width_sound bits_32 bits_32 h = refl
-width_sound bits_64 bits_64 h = refl
-width_sound _ _ h = absurd (false≢true h)
-
-width_same : (j : Width) → same_width j j ≡ true
-width_same bits_8 = refl
-width_same bits_16 = refl
-width_same bits_32 = refl
-width_same bits_64 = refl
-
-fields_kind_sound : (j k : FieldsKind) → same_fields_kind j k ≡ true → j ≡ k
-fields_kind_sound record_type record_type h = refl
-fields_kind_sound tuple_type tuple_type h = refl
-fields_kind_sound _ _ h = absurd (false≢true h)
-
-cases_kind_sound : (j k : CasesKind) → same_cases_kind j k ≡ true → j ≡ k
-cases_kind_sound variant_type variant_type h = refl
-cases_kind_sound enum_type enum_type h = refl
-cases_kind_sound option_type option_type h = refl
-cases_kind_sound result_type result_type h = refl
-cases_kind_sound _ _ h = absurd (false≢true h)
-
-label_sound : (k l : List ℕ) → bytes_eq k l ≡ true → k ≡ l
-label_sound k l h = (bytes_decides k l).0 h
-
-labels_sound : (ks ls : List (List ℕ)) → same_labels ks ls ≡ true → ks ≡ ls
-labels_sound [] [] h = refl
-labels_sound (k ∷ ks) (l ∷ ls) h =
-    let p = and_parts _ _ h in
-    let e = label_sound k l p.0 in
-    let f = labels_sound ks ls p.1 in cc
-labels_sound _ _ h = absurd (false≢true h)
-
-fields_kind_same : (j : FieldsKind) → same_fields_kind j j ≡ true
-fields_kind_same record_type = refl
-fields_kind_same tuple_type = refl
-
-cases_kind_same : (j : CasesKind) → same_cases_kind j j ≡ true
-cases_kind_same variant_type = refl
-cases_kind_same enum_type = refl
-cases_kind_same option_type = refl
-cases_kind_same result_type = refl
-
-labels_same : (ks : List (List ℕ)) → same_labels ks ks ≡ true
-labels_same [] = refl
-labels_same (k ∷ ks) = and_from _ _ ((bytes_decides k k).1 refl) (labels_same ks)
-
 mutual
   sound : (t u : Ty) → same_type t u ≡ true → t ≡ u
   sound bool bool h = refl
@@ -152,7 +71,7 @@ mutual
   fields_sound (field k t fs) (field l u gs) h =
       let p = and_parts _ _ h in
       let q = and_parts _ _ p.0 in
-      let d = label_sound k l q.0 in
+      let d = same_text k l q.0 in
       let e = sound t u q.1 in
       let f = fields_sound fs gs p.1 in cc
   fields_sound _ _ h = absurd (false≢true h)
@@ -161,12 +80,12 @@ mutual
   cases_sound no_cases no_cases h = refl
   cases_sound (plain k cs) (plain l ds) h =
       let p = and_parts _ _ h in
-      let d = label_sound k l p.0 in
+      let d = same_text k l p.0 in
       let f = cases_sound cs ds p.1 in cc
   cases_sound (carrying k t cs) (carrying l u ds) h =
       let p = and_parts _ _ h in
       let q = and_parts _ _ p.0 in
-      let d = label_sound k l q.0 in
+      let d = same_text k l q.0 in
       let e = sound t u q.1 in
       let f = cases_sound cs ds p.1 in cc
   cases_sound _ _ h = absurd (false≢true h)

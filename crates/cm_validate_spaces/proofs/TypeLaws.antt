@@ -1,5 +1,5 @@
 -- Types that are added to a scope, and types that an alias names.
-use Rattle.std.proofs.Common.{◌≡◌, ℕ, true, false, List, [], ◌∷◌, ◌++◌, Option, Some, None, refl, sym, ap, ◌∙◌, subst, append-nil, MatchOption}
+use Rattle.std.proofs.Common.{◌≡◌, ℕ, true, false, List, [], ◌∷◌, ◌++◌, Option, Some, None, refl, sym, ap, ◌∙◌, subst, MatchOption}
 use Rattle.std.specs.List.{AllByRecursion, slice_get}
 use Rattle.std.specs.Prelude.{◌==◌}
 use Rattle.cm_types.specs.Types.{Ty, FuncTy}
@@ -17,7 +17,7 @@ use Rattle.cm_validate_core.specs.CoreSpaces.{StaysAfter as CoreStaysAfter}
 use Rattle.cm_validate_types.specs.Entries.{def_of}
 use Rattle.cm_validate_types.specs.Settled.{IsEntrySettled}
 use Rattle.cm_validate_types.specs.SettledScopes.{AreSettled}
-use Rattle.cm_validate_types.specs.TypeScopes.{Extends, HasGrown, arena_funcs, arena_types, entries_of, own_types}
+use Rattle.cm_validate_types.specs.TypeScopes.{HasGrown, arena_funcs, arena_types, entries_of, own_types}
 use Rattle.cm_validate_types.specs.declared.entries.TypeEntry.{TypeEntry}
 use Rattle.cm_validate_types.specs.declared.scope.TypeScope.{TypeScope}
 use Rattle.cm_validate_entries.specs.ComponentSpaces.{AnswersAlias, IsComponentOf}
@@ -26,6 +26,8 @@ use Rattle.cm_validate_entries.specs.declared.spaces.ComponentSpaces.{ComponentS
 use Rattle.cm_validate_spaces.specs.IndexSpaces.{Answers, IsAt, funcs_in, types_in}
 use Rattle.cm_validate_spaces.specs.declared.spaces.IndexSpaces.{IndexSpaces}
 use Rattle.cm_validate_spaces.proofs.AnswerLaws.{ComponentGrows, LayoutsStay, component_answer, types_answer}
+use Rattle.cm_lemmas.proofs.Lists.{all_push}
+use Rattle.cm_validate_types.proofs.ScopeLaws.{grown_not}
 
 -- ---- a scope with one type more
 
@@ -35,22 +37,15 @@ pub record Adds (e : TypeEntry) (old new : TypeScope) : Type 0 where
   pub types : arena_types new ≡ arena_types old
   pub funcs : arena_funcs new ≡ arena_funcs old
 
-same : {A : Type 0} (xs ys : List A) → ys ≡ xs → Extends xs ys
-same xs ys e = ([], e ∙ sym (append-nil xs))
-
 pub grown : (e : TypeEntry) (old new : TypeScope) → Adds e old new → HasGrown old new
-grown e old new a = (same (arena_types old) (arena_types new) a.types, same (arena_funcs old) (arena_funcs new) a.funcs)
-
-all_pushed : {A : Type 0} (P : A → Type 0) (xs : List A) (x : A) → AllByRecursion P xs → P x → AllByRecursion P (xs ++ x ∷ [])
-all_pushed P [] x a p = (p, tt)
-all_pushed P (y ∷ ys) x a p = (a.0, all_pushed P ys x a.1 p)
+grown e old new a = (grown_not (arena_types old) (arena_types new) a.types, grown_not (arena_funcs old) (arena_funcs new) a.funcs)
 
 pub settled_with : (e : TypeEntry) (old new : TypeScope) → Adds e old new → AreSettled old → IsEntrySettled (arena_types old) (arena_funcs old) e → AreSettled new
 settled_with e old new a s p =
     subst (λ (ts : List Ty). AllByRecursion (IsEntrySettled ts (arena_funcs new)) (entries_of new)) (sym a.types)
     (subst (λ (fs : List FuncTy). AllByRecursion (IsEntrySettled (arena_types old) fs) (entries_of new)) (sym a.funcs)
     (subst (AllByRecursion (IsEntrySettled (arena_types old) (arena_funcs old))) (sym a.entries)
-    (all_pushed (IsEntrySettled (arena_types old) (arena_funcs old)) (entries_of old) e s p)))
+    (all_push (IsEntrySettled (arena_types old) (arena_funcs old)) (entries_of old) e s p)))
 
 -- one type that an item adds, and nothing else but maybe a resource
 pub one_answer : ComponentGrows → LayoutsStay → (x : Item) (w : IndexSpaces) (d : ComponentSpaces) (e : TypeEntry) (t : TypeScope)

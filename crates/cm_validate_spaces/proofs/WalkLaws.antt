@@ -1,5 +1,5 @@
 -- Items one after another, and sections.
-use Rattle.std.proofs.Common.{◌≡◌, inl, inr, ℕ, zero, suc, ◌+◌, ◌<◌, ◌≤◌, Bool, true, false, List, [], ◌∷◌, ◌++◌, length, take, drop, Option, Some, None, map, get_or, slice_get, refl, sym, ap, ◌∙◌, arith, subst, slice_index_or, add-one, length-append, append_assoc, append-nil}
+use Rattle.std.proofs.Common.{◌≡◌, inl, inr, ℕ, zero, suc, ◌+◌, ◌<◌, ◌≤◌, Bool, true, false, List, [], ◌∷◌, ◌++◌, length, take, drop, Option, Some, None, map, get_or, slice_get, refl, sym, ap, ◌∙◌, arith, subst, add-one, length-append, append-nil}
 use Rattle.std.proofs.lemmas.Bool.{leb-true, leb-false}
 use Rattle.std.proofs.lemmas.List.{length-map, take_all}
 use Rattle.std.proofs.lemmas.Option.{slice_get-get_or, slice_get-map}
@@ -19,6 +19,10 @@ use Rattle.cm_validate_model.specs.Valid.{IsFirstFault, IsLeast, IsValid, IsVali
 use Rattle.cm_validate_spaces.specs.IndexSpaces.{Answers, IsAt}
 use Rattle.cm_validate_spaces.specs.declared.spaces.IndexSpaces.{IndexSpaces}
 use Rattle.cm_validate_spaces.specs.Walks.{IsFaultMet, IsFineBefore, IsMet, Walks, items_at}
+use Rattle.cm_validate_model.proofs.ListLemmas.{after_both}
+use Rattle.cm_validate_model.proofs.ValidLaws.{valid_more, all_both, least_of_more}
+use Rattle.cm_lemmas.proofs.Lists.{long_enough, take_next, item_there as there}
+use Rattle.cm_validate_model.proofs.ReasonsLaws.{none_broken}
 
 -- ---- items that break nothing, one after another
 
@@ -34,38 +38,14 @@ pub fine_both : (s : Spaces) (xs ys : List Item) → AreFine s xs → AreFine (a
 fine_both s [] ys a b = b
 fine_both s (x ∷ xs) ys a b = (a.0, fine_both (after_item s x) xs ys a.1 b)
 
-pub after_both : (s : Spaces) (xs ys : List Item) → after_items s (xs ++ ys) ≡ after_items (after_items s xs) ys
-after_both s [] ys = refl
-after_both s (x ∷ xs) ys = after_both (after_item s x) xs ys
-
-abbrev head_or : {A : Type 0} → A → List A → A
-head_or x [] = x
-head_or x (y ∷ ys) = y
-
-abbrev tail : {A : Type 0} → List A → List A
-tail [] = []
-tail (y ∷ ys) = ys
-
-fine_at : (s : Spaces) (y : Item) (ys : List Item) → broken s y ≡ [] → IsValidFrom (after_item s y) ys → (front : List Item) (x : Item) (rest : List Item) → y ∷ ys ≡ front ++ x ∷ rest → broken (after_items s front) x ≡ []
-fine_at s y ys a v [] x rest e = ap (broken s) (sym (ap (head_or y) e)) ∙ a
-fine_at s y ys a v (z ∷ front) x rest e = ap (λ w. broken (after_items (after_item s w) front) x) (sym (ap (head_or y) e)) ∙ v front x rest (ap tail e)
-
 pub fine_valid : (s : Spaces) (xs : List Item) → AreFine s xs → IsValidFrom s xs
 fine_valid s [] a = λ front x rest e. absurd (omega (arith, ap length e, length-append front (x ∷ rest)))
-fine_valid s (y ∷ ys) a = λ front x rest e. fine_at s y ys a.0 (fine_valid (after_item s y) ys a.1) front x rest e
+fine_valid s (y ∷ ys) a = λ front x rest e. valid_more s y ys a.0 (fine_valid (after_item s y) ys a.1) front x rest e
 
 pub none_valid : IsValidFrom empty_spaces []
 none_valid = fine_valid empty_spaces [] tt
 
 -- ---- at a place
-
-pub take_next : {A : Type 0} (xs : List A) (i : ℕ) (x : A) → slice_get xs i ≡ Some x → take (suc i) xs ≡ take i xs ++ x ∷ []
-take_next [] i x e = absurd cc
-take_next (y ∷ ys) zero x e = ap (λ z. z ∷ []) (some_is e)
-  where
-    some_is : Some y ≡ Some x → y ≡ x
-    some_is f = cc
-take_next (y ∷ ys) (suc i) x e = ap (λ zs. y ∷ zs) (take_next ys i x e)
 
 pub split_at : {A : Type 0} (xs : List A) (i : ℕ) (x : A) → slice_get xs i ≡ Some x → xs ≡ take i xs ++ x ∷ drop (suc i) xs
 split_at [] i x e = absurd cc
@@ -75,33 +55,7 @@ split_at (y ∷ ys) zero x e = ap (λ z. z ∷ ys) (some_is e)
     some_is f = cc
 split_at (y ∷ ys) (suc i) x e = ap (λ zs. y ∷ zs) (split_at ys i x e)
 
-pub length_before : {A : Type 0} (xs : List A) (i : ℕ) (x : A) → slice_get xs i ≡ Some x → length (take i xs) ≡ i
-length_before [] i x e = absurd cc
-length_before (y ∷ ys) zero x e = refl
-length_before (y ∷ ys) (suc i) x e = ap suc (length_before ys i x e)
-
 -- ---- the least reason
-
-no_reason : (rs : List ValidReason) → least rs ≡ None → rs ≡ []
-no_reason [] e = refl
-no_reason (r ∷ rs) e = absurd (some_least r (least rs) e)
-  where
-    one : (b : Bool) (q p : ValidReason) → (if b then Some q else Some p) ≡ None → ⊥
-    one true q p e = absurd cc
-    one false q p e = absurd cc
-
-    some_least : (r : ValidReason) (o : Option ValidReason) → lesser (Some r) o ≡ None → ⊥
-    some_least r None e = absurd cc
-    some_least r (Some q) e = one (nat_le (reason_number r) (reason_number q)) r q e
-
-at_or_behind : (q : ValidReason) (rs : List ValidReason) (r : ValidReason) → reason_number r ≤ reason_number q → ((y : ValidReason) → Contains rs y → reason_number r ≤ reason_number y)
-    → (y : ValidReason) (k : ℕ) → k < length (q ∷ rs) → slice_index_or (q ∷ rs) k y ≡ y → reason_number r ≤ reason_number y
-at_or_behind q rs r h b y zero lt e = subst (λ v. reason_number r ≤ reason_number v) e h
-at_or_behind q rs r h b y (suc k) lt e = b y (k, omega (arith, lt), e)
-
-least_of_more : (q : ValidReason) (rs : List ValidReason) (r : ValidReason) → Contains (q ∷ rs) r → reason_number r ≤ reason_number q
-    → ((y : ValidReason) → Contains rs y → reason_number r ≤ reason_number y) → IsLeast (q ∷ rs) r
-least_of_more q rs r there h b = record { there = there; least = λ y c. at_or_behind q rs r h b y c.0 c.1 c.2 }
 
 alone : (q : ValidReason) (rs : List ValidReason) → rs ≡ [] → IsLeast (q ∷ rs) q
 alone q rs e = least_of_more q rs q (0, omega arith, refl) (omega arith) (λ y c. absurd (nothing y (subst (λ xs. Contains xs y) e c)))
@@ -121,7 +75,7 @@ chosen q rs p r false h k e =
     subst (IsLeast (q ∷ rs)) (some_is p r e) (least_of_more q rs p (suc k.there.0, omega (arith, k.there.1), k.there.2) (omega (arith, lt)) k.least)
 
 least_behind : (q : ValidReason) (rs : List ValidReason) (r : ValidReason) (o : Option ValidReason) → least rs ≡ o → lesser (Some q) o ≡ Some r → ((p : ValidReason) → least rs ≡ Some p → IsLeast rs p) → IsLeast (q ∷ rs) r
-least_behind q rs r None h e k = subst (IsLeast (q ∷ rs)) (some_is q r e) (alone q rs (no_reason rs h))
+least_behind q rs r None h e k = subst (IsLeast (q ∷ rs)) (some_is q r e) (alone q rs (none_broken rs h))
 least_behind q rs r (Some p) h e k = chosen q rs p r (nat_le (reason_number q) (reason_number p)) refl (k p h) e
 
 pub least_is : (rs : List ValidReason) (r : ValidReason) → least rs ≡ Some r → IsLeast rs r
@@ -136,7 +90,7 @@ first_fault s items i x r at fine e = record {
   item = x;
   rest = drop (suc i) items;
   split = split_at items i x at;
-  place = length_before items i x at;
+  place = long_enough items i x at;
   before = fine_valid s (take i items) fine;
   reason = least_is (broken (after_items s (take i items)) x) r (sym e);
 }
@@ -147,11 +101,6 @@ first_fault s items i x r at fine e = record {
 abbrev pub IsWalked : Spaces → List Item → ℕ → IndexSpaces → Type 0
 IsWalked s items n w = AreFine s (take n items) × IsAt w (after_items s (take n items))
 
-there : {A : Type 0} (xs : List A) (n : ℕ) → n < length xs → (x : A) × (slice_get xs n ≡ Some x)
-there [] n lt = absurd (omega (arith, lt))
-there (y ∷ ys) zero lt = (y, refl)
-there (y ∷ ys) (suc n) lt = there ys n (omega (arith, lt))
-
 pub walk_begins : (s : Spaces) (items : List Item) (w : IndexSpaces) → IsAt w s → IsWalked s items 0 w
 walk_begins s items w at = (tt, at)
 
@@ -160,7 +109,7 @@ walk_goes_on s items n old new lt answers w =
     let x = there items n lt in
     let a = answers x.0 x.1 in
     let more : take (n + 1) items ≡ take n items ++ x.0 ∷ [] = ap (λ (k : ℕ). take k items) (add-one n) ∙ take_next items n x.0 x.1 in (
-      subst (λ (ys : List Item). AreFine s ys) (sym more) (fine_more s (take n items) x.0 w.0 (no_reason (broken (after_items s (take n items)) x.0) (sym (a.fault (after_items s (take n items)) w.1)))),
+      subst (λ (ys : List Item). AreFine s ys) (sym more) (fine_more s (take n items) x.0 w.0 (none_broken (broken (after_items s (take n items)) x.0) (sym (a.fault (after_items s (take n items)) w.1)))),
       subst (λ (u : Spaces). IsAt new u) (sym (after_both s (take n items) (x.0 ∷ [])) ∙ ap (after_items s) (sym more)) (a.after (after_items s (take n items)) w.1),
     )
 
@@ -187,15 +136,11 @@ valid_fine s (x ∷ xs) v = (v [] x xs refl, valid_fine (after_item s x) xs (λ 
 abbrev pub AreWalked : List SectionTree → ℕ → IndexSpaces → Type 0
 AreWalked sections n w = AreFine empty_spaces (all_items (take n sections)) × IsAt w (after_items empty_spaces (all_items (take n sections)))
 
-items_both : (xs ys : List SectionTree) → all_items (xs ++ ys) ≡ all_items xs ++ all_items ys
-items_both [] ys = refl
-items_both (x ∷ xs) ys = ap (λ (zs : List Item). items_of x ++ zs) (items_both xs ys) ∙ sym (append_assoc (items_of x) (all_items xs) (all_items ys))
-
 items_more : (sections : List SectionTree) (n : ℕ) (t : SectionTree) → slice_get sections n ≡ Some t → all_items (take (n + 1) sections) ≡ all_items (take n sections) ++ items_of t
 items_more sections n t e =
     ap (λ (k : ℕ). all_items (take k sections)) (add-one n)
     ∙ (ap all_items (take_next sections n t e)
-    ∙ (items_both (take n sections) (t ∷ [])
+    ∙ (all_both (take n sections) (t ∷ [])
     ∙ ap (λ (zs : List Item). all_items (take n sections) ++ zs) (append-nil (items_of t))))
 
 pub walks_begin : (sections : List SectionTree) (w : IndexSpaces) → IsAt w empty_spaces → AreWalked sections 0 w
@@ -227,7 +172,7 @@ fault_met sections n t i r e w (inr f) = inr (record {
   faulty = t;
   behind = drop (suc n) sections;
   split = split_at sections n t e;
-  place = length_before sections n t e;
+  place = long_enough sections n t e;
   fine = fine_valid empty_spaces (all_items (take n sections)) w;
   here = f;
 })

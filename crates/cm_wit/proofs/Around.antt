@@ -1,5 +1,5 @@
 -- Names, ASCII case aside, around which something else stands.
-use Rattle.std.proofs.Common.{◌≡◌, ℕ, List, [], ◌∷◌, ◌++◌, Option, Some, None, Bool, true, false, ◌&&◌, map, refl, sym, ap, ◌∙◌}
+use Rattle.std.proofs.Common.{◌≡◌, ℕ, List, [], ◌∷◌, ◌++◌, Option, Some, None, true, ◌&&◌, map, refl, sym, ap, ◌∙◌}
 use Rattle.std.specs.Prelude.{◌↔◌, codes}
 use Rattle.std.proofs.lemmas.Slice.Eq.{bytes_eq-Decides}
 use Rattle.std.proofs.lemmas.List.{append_cancel_left, append_cancel_right, map-append}
@@ -9,6 +9,7 @@ use Rattle.cm_types.specs.Names.{is_same_name}
 use Rattle.cm_wit_reading.specs.Trees.{File}
 use Rattle.cm_wit_names.specs.FileMentions.{is_own_package, is_same_version, own_name}
 use Rattle.cm_wit_names.specs.Rules.{folded, own_part}
+use Rattle.cm_lemmas.proofs.Bools.{both_true}
 
 abbrev Same : List ℕ → List ℕ → Type 0
 Same x y = map to_ascii_lowercase x ≡ map to_ascii_lowercase y
@@ -72,10 +73,6 @@ put c s t e = ap (λ u. to_ascii_lowercase c ∷ u) e
 
 same : (x y : List ℕ) → is_same_name x y ≡ true → Same x y
 same x y e = (bytes_eq-Decides (map to_ascii_lowercase x) (map to_ascii_lowercase y)).0 e
-
-both_true : (a b : Bool) → (a && b) ≡ true → (a ≡ true) × (b ≡ true)
-both_true true b e = (refl, e)
-both_true false b e = absurd cc
 
 same_suffix : (v w : Option (List ℕ)) → is_same_version v w ≡ true → Same (version_suffix v) (version_suffix w)
 same_suffix None None e = refl

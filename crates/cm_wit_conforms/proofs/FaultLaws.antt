@@ -1,21 +1,17 @@
 -- The first fault, entry by entry.
 use Rattle.std.proofs.Common.{◌≡◌, ℕ, ◌+◌, ◌<◌, ◌≤◌, ◌↔◌, Bool, true, false, IsTrue, List, [], ◌∷◌, ◌++◌, length, map, take, drop, get_or, refl, sym, ap, subst, ◌∙◌}
-use Rattle.std.specs.List.{AllByRecursion}
 use Rattle.std.proofs.lemmas.List.{drop_more, map-append, map_more, take_all, take-append-drop}
 use Rattle.cm_wit_conforms.specs.Comparisons.{Entry}
 use Rattle.cm_wit_conforms.specs.Conformance.{AllFit, Fits, IsFirstIn, reason_of}
 use Rattle.cm_wit_conforms.specs.declared.fault.ConformReason.{ConformReason}
-
-all_more : {A : Type 0} (P : A → Type 0) (xs : List A) (y : A) → AllByRecursion P xs → P y → AllByRecursion P (xs ++ y ∷ [])
-all_more P [] y h p = (p, tt)
-all_more P (x ∷ xs) y h p = (h.0, all_more P xs y h.1 p)
+use Rattle.cm_lemmas.proofs.Lists.{all_push}
 
 module _ {A : Type 0} (view : A → Entry) (all : List A) where
   pub fit_more : (es : List Entry) (i : ℕ) (x : A) → i < length all → x ≡ get_or all i x → AllFit es (map view (take i all)) → Fits es (view x).what → AllFit es (map view (take (i + 1) all))
   fit_more es i x lt at fit here =
       let P : Entry → Type 0 = λ e. Fits es e.what in
       let more : map view (take (i + 1) all) ≡ map view (take i all) ++ view x ∷ [] = map_more view all i x lt ∙ ap (λ (y : A). map view (take i all) ++ view y ∷ []) (sym at) in
-      subst (λ (fs : List Entry). AllFit es fs) (sym more) (all_more P (map view (take i all)) (view x) fit here)
+      subst (λ (fs : List Entry). AllFit es fs) (sym more) (all_push P (map view (take i all)) (view x) fit here)
 
   pub all_fit : (es : List Entry) (i : ℕ) → length all ≤ i → AllFit es (map view (take i all)) → AllFit es (map view all)
   all_fit es i le fit = subst (λ (xs : List A). AllFit es (map view xs)) (take_all i all le) fit

@@ -13,7 +13,8 @@ use Rattle.cm_wit_conforms.specs.Conformance.{AllFit, Conforms, Fits, have_mark,
 use Rattle.cm_wit_conforms.specs.Itself.{AllResources, AllFieldResources, AllCaseResources, IsNamed, HasNamed, HasItemNames, IsWellNamed}
 use Rattle.cm_wit_conforms.specs.declared.fault.ConformList.{ConformList}
 use Rattle.cm_wit_conforms.specs.declared.fault.ConformList.TheVariants as walked
-use Rattle.cm_wit_conforms.proofs.PairLaws.{same_self}
+use Rattle.cm_lemmas.proofs.Lists.{all_both}
+use Rattle.cm_types.proofs.ResourceLaws.{resource_same}
 
 -- both are the same
 abbrev Alike : Comparison → Type 0
@@ -25,10 +26,6 @@ Alike (two_resources a b) = a ≡ b
 
 abbrev AllAlike : List Entry → Type 0
 AllAlike es = AllByRecursion (λ e. Alike e.what) es
-
-all_both : {A : Type 0} (P : A → Type 0) (xs ys : List A) → AllByRecursion P xs → AllByRecursion P ys → AllByRecursion P (xs ++ ys)
-all_both P [] ys h k = k
-all_both P (x ∷ xs) ys h k = (h.0, all_both P xs ys h.1 k)
 
 alike_item : (l : ConformList) (d : ItemTy) → Alike (facing two_items l d d)
 alike_item walked.WorldExports (func_item f) = refl
@@ -138,7 +135,7 @@ module _ (all : List Entry) (alike : AllAlike all) where
   rest_fits : (front es : List Entry) → all ≡ front ++ es → AllAlike es → AllByRecursion (λ e. HasNamed all e.what) es → AllFit all es
   rest_fits front [] split h k = tt
   rest_fits front (e ∷ es) split h k = (
-    one_fits e.what h.0 k.0 (λ a b is. subst (λ (xs : List Entry). (n : ℕ) × (position_from (λ e. meets_world a e.what) 0 xs ≡ Some n)) (sym split) (there a 0 front e es (ap (meets_world a) is ∙ same_self a))),
+    one_fits e.what h.0 k.0 (λ a b is. subst (λ (xs : List Entry). (n : ℕ) × (position_from (λ e. meets_world a e.what) 0 xs ≡ Some n)) (sym split) (there a 0 front e es (ap (meets_world a) is ∙ resource_same a))),
     rest_fits (front ++ e ∷ []) es (split ∙ sym (append_assoc front (e ∷ []) es)) h.1 k.1,
   )
 

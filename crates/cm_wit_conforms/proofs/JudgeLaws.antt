@@ -1,8 +1,6 @@
 -- Whether what is compared fits, by the numbers of types.
-use Rattle.std.proofs.Common.{◌≡◌, ◌==◌, ◌↔◌, ℕ, Bool, true, List, [], ◌∷◌, Option, Some, None, IsTrue, sym, ap, subst, ◌∙◌, arith}
-use Rattle.std.specs.Prelude.{Result, Ok, Err, IfOk}
+use Rattle.std.proofs.Common.{◌≡◌, ◌↔◌, ℕ, Bool, List, [], ◌∷◌, Option, Some, None, IsTrue, ap, subst, ◌∙◌}
 use Rattle.std.proofs.Math.Path.{fun_ext}
-use Rattle.std.proofs.lemmas.Bool.Decides.{nat_tests}
 use Rattle.cm_types.specs.Types.{Ty, FuncTy}
 use Rattle.cm_types.specs.declared.resource.ResourceId.{ResourceId}
 use Rattle.cm_types_arena.specs.Replaced.{Standing, replaced, replaced_func}
@@ -12,11 +10,6 @@ use Rattle.cm_wit_conforms.specs.Conformance.{have_mark, mark, world_mark}
 use Rattle.cm_wit_conforms.specs.Judging.{AreSides, marks_of}
 use Rattle.cm_wit_conforms.specs.Pairs.{pair_in}
 use Rattle.cm_wit_conforms.specs.declared.judge.Side.{Side}
-
--- what holds of an answer
-pub if_ok_more : {T E : Type 0} (r : Result T E) (P Q : T → Type 0) → IfOk r P → ((v : T) → P v → Q v) → IfOk r Q
-if_ok_more (Ok v) P Q h f = f v h
-if_ok_more (Err e) P Q h f = tt
 
 head_of : Option ℕ → List (Option ℕ) → Option ℕ
 head_of d [] = d
@@ -30,19 +23,6 @@ type_stays old new stay s x n is = ap (head_of None) (stay s (x ∷ []) (n ∷ [
 pub func_stays : (old new : Numbering) → ((s : Standing) (fs : List FuncTy) (ns : List ℕ) → AreFuncNumbers old s fs ns → AreFuncNumbers new s fs ns) → (s : Standing) (f : FuncTy) (n : ℕ) → number_func old (replaced_func s f) ≡ Some n → number_func new (replaced_func s f) ≡ Some n
 unfolding head_of
 func_stays old new stay s f n is = ap (head_of None) (stay s (f ∷ []) (n ∷ []) (ap (λ (o : Option ℕ). o ∷ []) is))
-
--- a test of two numbers tells what their equality does
-test_is : (m n : ℕ) → (m == n) ≡ true → m ≡ n
-test_is m n e = grind (arith, nat_tests)
-
-eq_self : (m : ℕ) → (m == m) ≡ true
-eq_self m = grind (arith, nat_tests)
-
-pub test_tells : (m n : ℕ) (same : Bool) (P : Type 0) → same ≡ (m == n) → (m ≡ n) ↔ P → IsTrue same ↔ P
-test_tells m n same P is tells = (
-  λ t. tells.0 (test_is m n (sym is ∙ t)),
-  λ p. is ∙ subst (λ (k : ℕ). (m == k) ≡ true) (tells.1 p) (eq_self m),
-)
 
 -- the marks of both sides
 pub have_marks : (all : List Entry) (have world : Side) → AreSides all have world → marks_of have ≡ have_mark all

@@ -9,9 +9,7 @@ use Rattle.cm_wit_conforms.specs.Walks.{IsJudged, are_found, is_found, judged}
 use Rattle.cm_wit_conforms.specs.declared.judged.Judged.{Judged}
 use Rattle.cm_wit_conforms.specs.declared.fault.ConformItem.{ConformItem}
 use Rattle.cm_wit_conforms.specs.declared.fault.ConformReason.{ConformReason}
-
-true_not : true ≡ false → ⊥
-true_not e = cc
+use Rattle.cm_lemmas.proofs.Bools.{true_not_false}
 
 -- ---- more entries
 
@@ -19,14 +17,14 @@ pub judged_more : (xs ys : List Entry) → are_found xs ≡ true → judged (xs 
 judged_more [] ys found = refl
 judged_more (x ∷ xs) ys found = elim (cases_Bool (is_found x.what)) [
   | inl y ↦ ap (λ (b : Bool). x ∷ (if b then judged (xs ++ ys) else [])) y ∙ ap (λ (es : List Entry). x ∷ es) (judged_more xs ys (sym (ap (λ (b : Bool). b && are_found xs) y) ∙ found))
-  | inr n ↦ absurd (true_not (sym found ∙ ap (λ (b : Bool). b && are_found xs) n))
+  | inr n ↦ absurd (true_not_false (sym found ∙ ap (λ (b : Bool). b && are_found xs) n))
 ]
 
 pub judged_all : (xs : List Entry) → are_found xs ≡ true → judged xs ≡ xs
 judged_all [] found = refl
 judged_all (x ∷ xs) found = elim (cases_Bool (is_found x.what)) [
   | inl y ↦ ap (λ (b : Bool). x ∷ (if b then judged xs else [])) y ∙ ap (λ (es : List Entry). x ∷ es) (judged_all xs (sym (ap (λ (b : Bool). b && are_found xs) y) ∙ found))
-  | inr n ↦ absurd (true_not (sym found ∙ ap (λ (b : Bool). b && are_found xs) n))
+  | inr n ↦ absurd (true_not_false (sym found ∙ ap (λ (b : Bool). b && are_found xs) n))
 ]
 
 pub judged_still : (xs ys : List Entry) → are_found xs ≡ false → judged (xs ++ ys) ≡ judged xs

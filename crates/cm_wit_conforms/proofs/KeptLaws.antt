@@ -1,5 +1,5 @@
 -- What is kept of one more number.
-use Rattle.std.proofs.Common.{◌≡◌, ℕ, Bool, true, cond, List, inl, inr, Option, Some, sym, ap, subst, ◌∙◌, rules}
+use Rattle.std.proofs.Common.{◌≡◌, ℕ, Bool, cond, List, inl, inr, Option, Some, sym, ap, subst, ◌∙◌}
 use Rattle.std.specs.BTreeMap.{get}
 use Rattle.std.specs.Ordering.{is_eq, nat_cmp}
 use Rattle.std.proofs.lemmas.Bool.{cases_Bool}
@@ -10,9 +10,7 @@ use Rattle.cm_wit_lookups.specs.Known.{AreKnown}
 use Rattle.cm_wit_lookups.specs.declared.known.KnownItems.{KnownItems}
 use Rattle.cm_wit_conforms.specs.Walks.{AreKept}
 use Rattle.cm_wit_conforms.specs.declared.kept.Kept.{Kept}
-
-same_number : (m n : ℕ) → is_eq (nat_cmp m n) ≡ true → m ≡ n
-same_number m n e = search rules
+use Rattle.cm_lemmas.proofs.Orders.{number_exact}
 
 one_known : (j k : KnownItems) → Some j ≡ Some k → j ≡ k
 one_known j k e = cc
@@ -24,7 +22,7 @@ pub kept_more : (externs : Externs) (old new : Kept) (place number : ℕ) (names
 kept_more externs old new place number names known equal has are knows at kept t n p k is told = elim (cases_Bool (is_eq (nat_cmp number n))) [
   | inl y ↦
       let same : known ≡ k = one_known known k (sym (ap (λ (b : Bool). cond b (Some known) (get nat_cmp old.known n)) y) ∙ (sym (at n) ∙ is)) in
-      let here : number_at externs place ≡ Some n = has ∙ ap (λ (m : ℕ). let o : Option ℕ = Some m in o) (same_number number n y) in
+      let here : number_at externs place ≡ Some n = has ∙ ap (λ (m : ℕ). let o : Option ℕ = Some m in o) (number_exact number n y) in
       let texts : names t ≡ names_at t externs p = sym (are t) ∙ equal t externs place p n here told in
       subst (λ (j : KnownItems). AreKnown (names_at t externs p) j) same (subst (λ (l : List (List ℕ)). AreKnown l known) texts (knows t))
   | inr m ↦ kept t n p k (sym (ap (λ (b : Bool). cond b (Some known) (get nat_cmp old.known n)) m) ∙ (sym (at n) ∙ is)) told

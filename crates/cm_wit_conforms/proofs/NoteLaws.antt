@@ -12,7 +12,8 @@ use Rattle.cm_wit_conforms.specs.Pairs.{HasPairs, HaveBoth, NoteBoth, Notes, les
 use Rattle.cm_wit_conforms.specs.Walks.{is_found}
 use Rattle.cm_wit_conforms.specs.declared.pairs.BothPairs.{BothPairs}
 use Rattle.cm_wit_conforms.specs.declared.pairs.Pairs.{Pairs}
-use Rattle.cm_wit_conforms.proofs.SearchLaws.{first_found, found_behind, found_still, get_back, get_front, get_within, none_found}
+use Rattle.cm_wit_conforms.proofs.SearchLaws.{first_found, found_behind, found_still, get_back, none_found}
+use Rattle.cm_lemmas.proofs.Lists.{get_front, get_left}
 
 -- ---- the lesser of two
 
@@ -174,7 +175,7 @@ module _ {E : Type 0} (meets : ResourceId → E → Bool) (es added : List E) (p
           let f = first_found (meets r) 0 (es ++ added) k is in
           let lt : k < length es = grind (arith, nat_tests, le) in
           let at : f.0 ≡ k = omega (arith, f.1) in
-          early k is (position_from (meets r) 0 es) refl f.2.entry (sym (get_within es added k lt) ∙ (ap (slice_get (es ++ added)) (sym at) ∙ f.2.here)) f.2.passes
+          early k is (position_from (meets r) 0 es) refl f.2.entry (sym (get_left es added k lt) ∙ (ap (slice_get (es ++ added)) (sym at) ∙ f.2.here)) f.2.passes
       by_place k is false fails =
           let f = first_found (meets r) 0 (es ++ added) k is in
           let ge : length es ≤ k = grind (arith, nat_tests, fails) in

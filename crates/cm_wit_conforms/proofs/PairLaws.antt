@@ -1,12 +1,12 @@
 -- The pairs of resources.
-use Rattle.std.proofs.Common.{◌≡◌, ℕ, zero, suc, ◌+◌, ◌<◌, ◌==◌, ◌&&◌, Bool, true, false, cond, List, [], ◌∷◌, length, get_or, inl, inr, Option, Some, None, refl, sym, ap, subst, ◌∙◌, arith}
+use Rattle.std.proofs.Common.{◌≡◌, ℕ, zero, suc, ◌+◌, ◌<◌, Bool, true, cond, List, [], ◌∷◌, length, get_or, inl, inr, Option, Some, None, sym, ap, subst, ◌∙◌, arith}
 use Rattle.std.specs.List.{position_from}
 use Rattle.std.proofs.lemmas.Bool.{cases_Bool}
-use Rattle.std.proofs.lemmas.Bool.Decides.{nat_tests}
-use Rattle.cm_types.specs.Resources.{same_resource}
 use Rattle.cm_types.specs.declared.resource.ResourceId.{ResourceId}
 use Rattle.cm_wit_conforms.specs.Comparisons.{Comparison, nothing, two_sorts, two_funcs, two_types, two_resources, Entry}
 use Rattle.cm_wit_conforms.specs.Conformance.{meets_have, meets_world, have_pair, world_pair, Correspond}
+use Rattle.cm_types.proofs.ResourceLaws.{resource_sound}
+use Rattle.cm_lemmas.proofs.Options.{some_turned}
 
 -- the test holds at a position that was found
 abbrev pub Found : {X : Type 0} → (X → Bool) → ℕ → List X → ℕ → Type 0
@@ -15,42 +15,26 @@ Found {X} t i xs n = (k : ℕ) × (n ≡ i + k) × (k < length xs) × ((d : X) �
 later : {X : Type 0} (t : X → Bool) (i : ℕ) (x : X) (xs : List X) (n : ℕ) → Found t (i + 1) xs n → Found t i (x ∷ xs) n
 later t i x xs n f = (suc f.0, omega (arith, f.1), omega (arith, f.2), f.3)
 
-some_is : (i n : ℕ) → Some i ≡ Some n → n ≡ i
-some_is i n e = cc
-
 pub found_at : {X : Type 0} (t : X → Bool) (i : ℕ) (xs : List X) (n : ℕ) → position_from t i xs ≡ Some n → Found t i xs n
 found_at t i [] n e = absurd cc
 found_at {X} t i (x ∷ xs) n e = elim (cases_Bool (t x)) [
-  | inl y ↦ (zero, (let is : n ≡ i = some_is i n (sym (ap (λ (b : Bool). cond b (Some i) (position_from t (i + 1) xs)) y) ∙ e) in omega (arith, is)), omega arith, λ d. y)
+  | inl y ↦ (zero, (let is : n ≡ i = some_turned i n (sym (ap (λ (b : Bool). cond b (Some i) (position_from t (i + 1) xs)) y) ∙ e) in omega (arith, is)), omega arith, λ d. y)
   | inr m ↦ later t i x xs n (found_at t (i + 1) xs n (sym (ap (λ (b : Bool). cond b (Some i) (position_from t (i + 1) xs)) m) ∙ e))
 ]
-
-both_true : (a b : Bool) → (a && b) ≡ true → (a ≡ true) × (b ≡ true)
-both_true true b e = (refl, e)
-both_true false b e = absurd cc
-
-same_number : (x y : ℕ) → (x == y) ≡ true → x ≡ y
-same_number x y e = grind (arith, nat_tests)
-
-pub same_is : (r s : ResourceId) → same_resource r s ≡ true → r ≡ s
-same_is r s e =
-    let p = both_true (r.component == s.component) (r.number == s.number) e in
-    ap (λ (c : ℕ). let x : ResourceId = record { component = c; number = r.number } in x) (same_number r.component s.component p.0)
-    ∙ ap (λ (n : ℕ). let x : ResourceId = record { component = s.component; number = n } in x) (same_number r.number s.number p.1)
 
 met_world : (what : Comparison) (b c : ResourceId) → meets_have b what ≡ true → meets_have c what ≡ true → b ≡ c
 met_world nothing b c h k = absurd cc
 met_world two_sorts b c h k = absurd cc
 met_world (two_funcs f g) b c h k = absurd cc
 met_world (two_types f g) b c h k = absurd cc
-met_world (two_resources x y) b c h k = same_is b y h ∙ sym (same_is c y k)
+met_world (two_resources x y) b c h k = resource_sound b y h ∙ sym (resource_sound c y k)
 
 met_have : (what : Comparison) (b c : ResourceId) → meets_world b what ≡ true → meets_world c what ≡ true → b ≡ c
 met_have nothing b c h k = absurd cc
 met_have two_sorts b c h k = absurd cc
 met_have (two_funcs f g) b c h k = absurd cc
 met_have (two_types f g) b c h k = absurd cc
-met_have (two_resources x y) b c h k = same_is b x h ∙ sym (same_is c x k)
+met_have (two_resources x y) b c h k = resource_sound b x h ∙ sym (resource_sound c x k)
 
 number_of : Option ℕ → ℕ
 number_of None = 0
@@ -83,9 +67,3 @@ one_of_the_signature all a b c h k =
     by_entry : (all : List Entry) (b c : ResourceId) (i : ℕ) → i < length all → ((d : Entry) → meets_world b (get_or all i d).what ≡ true) → ((d : Entry) → meets_world c (get_or all i d).what ≡ true) → b ≡ c
     by_entry [] b c i lt f g = absurd (omega (arith, lt))
     by_entry (e ∷ es) b c i lt f g = met_have (get_or (e ∷ es) i e).what b c (f e) (g e)
-
-eq_self : (x : ℕ) → (x == x) ≡ true
-eq_self x = grind (arith, nat_tests)
-
-pub same_self : (r : ResourceId) → same_resource r r ≡ true
-same_self r = ap (λ (b : Bool). b && (r.number == r.number)) (eq_self r.component) ∙ eq_self r.number

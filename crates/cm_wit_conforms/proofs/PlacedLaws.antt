@@ -22,10 +22,7 @@ use Rattle.cm_wit_conforms.specs.Views.{extern_found, item_found}
 use Rattle.std.proofs.lemmas.Option.{slice_get-map}
 use Rattle.cm_wit_conforms.specs.declared.fault.ConformList.{ConformList}
 use Rattle.cm_wit_conforms.proofs.WalkLaws.{named_placed}
-
-fused : {A B C : Type 0} (f : A → B) (g : B → C) (o : Option A) → option_map g (option_map f o) ≡ option_map (λ x. g (f x)) o
-fused f g None = refl
-fused f g (Some x) = refl
+use Rattle.cm_lemmas.proofs.Options.{fused}
 
 -- what has an item's name is what stands at its place
 item_there : (t : Types) (others : Items) (name : List ℕ) → item_named name (brought_items t others) ≡ item_found t others (place_in (item_names t others) name)

@@ -1,14 +1,11 @@
 -- The first entry that passes a test, by its place.
-use Rattle.std.proofs.Common.{◌≡◌, ℕ, zero, suc, ◌+◌, ◌<◌, ◌≤◌, Bool, true, false, cond, List, [], ◌∷◌, ◌++◌, length, inl, inr, Option, Some, None, refl, sym, ap, ◌∙◌, arith}
+use Rattle.std.proofs.Common.{◌≡◌, ℕ, zero, suc, ◌+◌, ◌≤◌, Bool, true, false, cond, List, [], ◌∷◌, ◌++◌, length, inl, inr, Option, Some, None, refl, sym, ap, ◌∙◌, arith}
 use Rattle.std.specs.List.{position_from, slice_get}
 use Rattle.std.proofs.lemmas.Bool.{cases_Bool}
+use Rattle.cm_lemmas.proofs.Options.{some_is as some_element, some_turned}
+use Rattle.cm_lemmas.proofs.Bools.{true_not_false}
 
 -- ---- places in lists that are joined
-
-pub get_front : {E : Type 0} (xs ys : List E) (n : ℕ) (e : E) → slice_get xs n ≡ Some e → slice_get (xs ++ ys) n ≡ Some e
-get_front [] ys n e h = absurd cc
-get_front (x ∷ xs) ys zero e h = h
-get_front (x ∷ xs) ys (suc n) e h = get_front xs ys n e h
 
 pub get_back : {E : Type 0} (xs ys : List E) (p n : ℕ) → n ≡ length xs + p → slice_get (xs ++ ys) n ≡ slice_get ys p
 get_back {E} [] ys p n e =
@@ -17,21 +14,7 @@ get_back {E} [] ys p n e =
 get_back (x ∷ xs) ys p zero e = absurd (omega (arith, e))
 get_back (x ∷ xs) ys p (suc n) e = get_back xs ys p n (omega (arith, e))
 
-pub get_within : {E : Type 0} (xs ys : List E) (n : ℕ) → n < length xs → slice_get (xs ++ ys) n ≡ slice_get xs n
-get_within [] ys n lt = absurd (omega (arith, lt))
-get_within (x ∷ xs) ys zero lt = refl
-get_within (x ∷ xs) ys (suc n) lt = get_within xs ys n (omega (arith, lt))
-
 -- ---- the first
-
-some_is : (i n : ℕ) → Some i ≡ Some n → n ≡ i
-some_is i n e = cc
-
-true_not : true ≡ false → ⊥
-true_not e = cc
-
-some_element : {E : Type 0} (x d : E) → Some x ≡ Some d → x ≡ d
-some_element x d e = cc
 
 -- It is the k-th, passes, and none before it does.
 pub record IsFirst {E : Type 0} (t : E → Bool) (xs : List E) (k : ℕ) : Type 0 where
@@ -44,7 +27,7 @@ pub first_found : {E : Type 0} (t : E → Bool) (i : ℕ) (xs : List E) (n : ℕ
 first_found t i [] n h = absurd cc
 first_found {E} t i (x ∷ xs) n h = elim (cases_Bool (t x)) [
   | inl y ↦
-      let is : n ≡ i = some_is i n (sym (ap (λ (b : Bool). cond b (Some i) (position_from t (i + 1) xs)) y) ∙ h) in
+      let is : n ≡ i = some_turned i n (sym (ap (λ (b : Bool). cond b (Some i) (position_from t (i + 1) xs)) y) ∙ h) in
       (zero, omega (arith, is), record { entry = x; here = refl; passes = y; least = λ m d g p. omega arith })
   | inr fails ↦
       let f = first_found t (i + 1) xs n (sym (ap (λ (b : Bool). cond b (Some i) (position_from t (i + 1) xs)) fails) ∙ h) in
@@ -52,7 +35,7 @@ first_found {E} t i (x ∷ xs) n h = elim (cases_Bool (t x)) [
 ]
   where
     behind : (k : ℕ) → t x ≡ false → ((m : ℕ) (d : E) → slice_get xs m ≡ Some d → t d ≡ true → k ≤ m) → (m : ℕ) (d : E) → slice_get (x ∷ xs) m ≡ Some d → t d ≡ true → suc k ≤ m
-    behind k fails least zero d g p = absurd (true_not (sym p ∙ (sym (ap t (some_element x d g)) ∙ fails)))
+    behind k fails least zero d g p = absurd (true_not_false (sym p ∙ (sym (ap t (some_element x d g)) ∙ fails)))
     behind k fails least (suc m) d g p = let le : k ≤ m = least m d g p in omega (arith, le)
 
 some_none : (i : ℕ) → (let o : Option ℕ = Some i in o) ≡ None → ⊥

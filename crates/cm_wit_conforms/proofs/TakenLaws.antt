@@ -2,8 +2,8 @@
 use Rattle.std.proofs.Common.{◌≡◌, ℕ, zero, suc, ◌+◌, ◌<◌, ◌≤◌, List, [], ◌∷◌, ◌++◌, length, map, take, get_or, Option, Some, None, inl, inr, refl, sym, ap, subst, ◌∙◌, arith, append_assoc, append-nil}
 use Rattle.std.specs.List.{slice_get}
 use Rattle.std.specs.Option.{option_map}
-use Rattle.std.proofs.lemmas.List.{take_all, take_more}
-use Rattle.std.proofs.lemmas.Option.{get_or_from_slice_get, slice_get_cases, slice_get_within}
+use Rattle.std.proofs.lemmas.List.{take_all}
+use Rattle.std.proofs.lemmas.Option.{slice_get_cases, slice_get_within}
 use Rattle.cm_types.specs.Signatures.{NamedExtern}
 use Rattle.cm_types_arena.specs.declared.types.Types.{Types}
 use Rattle.cm_types_signatures.specs.Listed.{externs_listed}
@@ -14,12 +14,9 @@ use Rattle.cm_wit_conforms.specs.Views.{entries_of, extern_found}
 use Rattle.cm_wit_conforms.specs.declared.fault.ConformList.{ConformList}
 use Rattle.cm_wit_conforms.proofs.PlacedLaws.{extern_there}
 use Rattle.cm_wit_conforms.proofs.WalkLaws.{place_at}
+use Rattle.cm_lemmas.proofs.Lists.{take_one}
 
 -- ---- the first so many
-
-pub take_one : {E : Type 0} (xs : List E) (n : ℕ) (e : E) → slice_get xs n ≡ Some e → take (n + 1) xs ≡ take n xs ++ e ∷ []
-take_one {E} xs n e h =
-    take_more xs n e (slice_get_within xs n e h) ∙ ap (λ (x : E). take n xs ++ x ∷ []) (get_or_from_slice_get xs n e e h)
 
 pub take_none : {E : Type 0} (xs : List E) (n : ℕ) → slice_get xs n ≡ None → take (n + 1) xs ≡ take n xs
 take_none {E} xs n h = elim (slice_get_cases xs n).1 [

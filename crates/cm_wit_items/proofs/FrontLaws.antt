@@ -1,32 +1,20 @@
 -- Members whose names' fronts are in a list.
-use Rattle.std.proofs.Common.{◌≡◌, ℕ, zero, suc, ◌+◌, List, [], ◌∷◌, ◌++◌, length, Some, slice_get, ap, subst, ◌∙◌, sym, arith}
+use Rattle.std.proofs.Common.{◌≡◌, ℕ, ◌+◌, List, [], ◌∷◌, ◌++◌, length, Some, slice_get, ap, subst, ◌∙◌, sym}
 use Rattle.std.specs.List.{AllByRecursion}
 use Rattle.cm_types_signatures.specs.declared.names.Front.{Front}
 use Rattle.cm_wit_reading.specs.Views.{resource_func_tree}
 use Rattle.cm_wit_items.specs.Fronts.{AreFronted, IsFronted, func_front, resource_fronts}
 use Rattle.cm_wit_items.specs.declared.members.Member.{Member}
 use Rattle.cm_wit_items.specs.declared.members.Member.TheVariants as member
-
-got_left : {A : Type 0} (xs ys : List A) (k : ℕ) (x : A) → slice_get xs k ≡ Some x → slice_get (xs ++ ys) k ≡ Some x
-got_left [] ys k x e = absurd cc
-got_left (y ∷ xs) ys zero x e = e
-got_left (y ∷ xs) ys (suc k) x e = got_left xs ys k x e
-
-got_right : {A : Type 0} (xs ys : List A) (k : ℕ) → slice_get (xs ++ ys) (length xs + k) ≡ slice_get ys k
-got_right [] ys k = let n : 0 + k ≡ k = omega arith in ap (slice_get ys) n
-got_right (x ∷ xs) ys k = let n : suc (length xs) + k ≡ suc (length xs + k) = omega arith in ap (slice_get (x ∷ (xs ++ ys))) n ∙ got_right xs ys k
-
-all_pushed : {A : Type 0} (P : A → Type 0) (xs : List A) (x : A) → AllByRecursion P xs → P x → AllByRecursion P (xs ++ x ∷ [])
-all_pushed P [] x h p = (p, tt)
-all_pushed P (y ∷ xs) x h p = (h.0, all_pushed P xs x h.1 p)
+use Rattle.cm_lemmas.proofs.Lists.{all_push, get_front, get_behind}
 
 pub all_grown : {A : Type 0} (P : A → Type 0) (xs new : List A) (x : A) → new ≡ xs ++ x ∷ [] → AllByRecursion P xs → P x → AllByRecursion P new
-all_grown P xs new x n h p = subst (AllByRecursion P) (sym n) (all_pushed P xs x h p)
+all_grown P xs new x n h p = subst (AllByRecursion P) (sym n) (all_push P xs x h p)
 
 one_kept : (fronts more : List Front) (m : Member) → IsFronted fronts m → IsFronted (fronts ++ more) m
 one_kept fronts more (member.Used name) h = tt
 one_kept fronts more (member.Declared name) h = tt
-one_kept fronts more (member.OfResource r f k) h = got_left fronts more k (func_front r.now (resource_func_tree f.now)) h
+one_kept fronts more (member.OfResource r f k) h = get_front fronts more k (func_front r.now (resource_func_tree f.now)) h
 one_kept fronts more (member.Function name f) h = tt
 
 -- members stay fronted where fronts are added
@@ -35,9 +23,9 @@ each_kept fronts more [] h = tt
 each_kept fronts more (m ∷ ms) h = (one_kept fronts more m h.0, each_kept fronts more ms h.1)
 
 pub fronted_kept : (fronts more : List Front) (ms : List Member) → AreFronted fronts ms → AreFronted (fronts ++ more) ms
-fronted_kept fronts more ms h = record { plain = got_left fronts more 0 _ h.plain; each = each_kept fronts more ms h.each }
+fronted_kept fronts more ms h = record { plain = get_front fronts more 0 _ h.plain; each = each_kept fronts more ms h.each }
 
 -- a function of a resource has the number of its front among those of its resource
 pub at_place : (before : List Front) (r : List ℕ) (first place : ℕ) (f : Front) → length before ≡ first → slice_get (resource_fronts r) place ≡ Some f → slice_get (before ++ resource_fronts r) (first + place) ≡ Some f
 at_place before r first place f n e =
-    ap (λ (k : ℕ). slice_get (before ++ resource_fronts r) (k + place)) (sym n) ∙ (got_right before (resource_fronts r) place ∙ e)
+    ap (λ (k : ℕ). slice_get (before ++ resource_fronts r) (k + place)) (sym n) ∙ (get_behind before (resource_fronts r) place ∙ e)

@@ -3,6 +3,7 @@ use Rattle.std.proofs.Common.{◌≡◌, ℕ, zero, suc, arith, slice_get, ◌<�
 use Rattle.std.specs.List.{AllByRecursion, flat_map}
 use Rattle.std.specs.Option.{option_map, option_and_then}
 use Rattle.std.proofs.lemmas.Option.{get_or_from_slice_get, slice_get-map}
+use Rattle.std.proofs.lemmas.Bool.{and_right}
 use Rattle.cm_types.specs.ExternNames.{name_spelling}
 use Rattle.cm_types.specs.Types.{Ty, FuncTy}
 use Rattle.cm_types.specs.Signatures.{ItemTy, NamedItem, func_item, equal_type}
@@ -38,10 +39,14 @@ use Rattle.cm_wit_items.specs.declared.members.Member.TheVariants as member
 use Rattle.cm_wit_items.specs.MemberViews.{member_view}
 use Rattle.cm_wit_items.specs.ItemFaults.{AreWithin, are_spelled, IsItemFault, AreItemsFault}
 use Rattle.cm_wit_items.specs.Own.{AreOwn}
-use Rattle.cm_wit_items.proofs.GrowthLaws.{place_kept, func_kept, less_of, test_of, extends_length, below_more}
-use Rattle.cm_wit_items.proofs.ScopeLaws.{scope_kept, scope_placed}
 use Rattle.cm_wit_items.proofs.EachLaws.{makes_fault}
 use Rattle.cm_wit_items.proofs.PushLaws.{Grown, Pushed, pushed_next, pushed_all}
+use Rattle.cm_lemmas.proofs.Numbers.{below_more, less_of, lt_true}
+use Rattle.cm_wit_meanings.proofs.MemberLaws.{each_view}
+use Rattle.cm_wit_meanings.proofs.GrowthLaws.{extends_length, place_kept}
+use Rattle.cm_wit_meanings.proofs.PlacesLaws.{func_kept}
+use Rattle.cm_lemmas.proofs.Bools.{and_false_by}
+use Rattle.cm_wit_meanings.proofs.ScopeLaws.{scope_kept, scope_placed}
 
 -- ---- one item
 
@@ -57,7 +62,7 @@ abbrev items_made : List Front → List Ty → List FuncTy → List SharedItem �
 items_made fronts types funcs is = map (shared_item_of types funcs fronts) is
 
 test_more : (m n p : ℕ) → m ≤ n → nat_lt p m ≡ true → nat_lt p n ≡ true
-test_more m n p le e = test_of p n (below_more m n p le (less_of p m e))
+test_more m n p le e = lt_true p n (below_more m n p le (less_of p m e))
 
 module _ (types more : List Ty) (funcs further : List FuncTy) (e : Extends types more) (g : Extends funcs further) where
   desc_more : (d : ItemDesc) → is_desc_there (length types) (length funcs) d ≡ true → is_desc_there (length more) (length further) d ≡ true
@@ -106,11 +111,11 @@ module _ (old new : Types) (g : Grown old new) where
 
 -- ---- several
 
-all_left : (xs ys : List FuncTy) → AreWithin (xs ++ ys) → AreWithin xs
+pub all_left : (xs ys : List FuncTy) → AreWithin (xs ++ ys) → AreWithin xs
 all_left [] ys h = tt
 all_left (x ∷ xs) ys h = (h.0, all_left xs ys h.1)
 
-all_right : (xs ys : List FuncTy) → AreWithin (xs ++ ys) → AreWithin ys
+pub all_right : (xs ys : List FuncTy) → AreWithin (xs ++ ys) → AreWithin ys
 all_right [] ys h = h
 all_right (x ∷ xs) ys h = all_right xs ys h.1
 
@@ -118,24 +123,13 @@ pub all_both : (xs ys : List FuncTy) → AreWithin xs → AreWithin ys → AreWi
 all_both [] ys h g = g
 all_both (x ∷ xs) ys h g = (h.0, all_both xs ys h.1 g)
 
-second_false : (a b : Bool) → b ≡ false → (a && b) ≡ false
-second_false true b h = h
-second_false false b h = refl
-
-first_false : (a b : Bool) → a ≡ false → (a && b) ≡ false
-first_false a b h = ap (λ (x : Bool). x && b) h
-
-one_unspelled : (b c d : Bool) → (c ≡ false → d ≡ false) → (b && c) ≡ false → (b && d) ≡ false
-one_unspelled true c d h e = h e
-one_unspelled false c d h e = refl
-
-first_unspelled : (xs ys : List FuncTy) → are_spelled xs ≡ false → are_spelled (xs ++ ys) ≡ false
+pub first_unspelled : (xs ys : List FuncTy) → are_spelled xs ≡ false → are_spelled (xs ++ ys) ≡ false
 first_unspelled [] ys h = absurd cc
-first_unspelled (x ∷ xs) ys h = one_unspelled (is_func_spellable x) (are_spelled xs) (are_spelled (xs ++ ys)) (first_unspelled xs ys) h
+first_unspelled (x ∷ xs) ys h = and_false_by (is_func_spellable x) (are_spelled xs) (are_spelled (xs ++ ys)) (first_unspelled xs ys) h
 
-second_unspelled : (xs ys : List FuncTy) → are_spelled ys ≡ false → are_spelled (xs ++ ys) ≡ false
+pub second_unspelled : (xs ys : List FuncTy) → are_spelled ys ≡ false → are_spelled (xs ++ ys) ≡ false
 second_unspelled [] ys h = h
-second_unspelled (x ∷ xs) ys h = second_false (is_func_spellable x) (are_spelled (xs ++ ys)) (second_unspelled xs ys h)
+second_unspelled (x ∷ xs) ys h = and_right (is_func_spellable x) (are_spelled (xs ++ ys)) (second_unspelled xs ys h)
 
 -- what holds of the functions of several things holds of those of one, and what does not of one
 -- does not of all
@@ -182,10 +176,6 @@ has_resource s fronts resources (member.Function name f) e h = tt
 -- a member has its resource where these are those of the fronts
 pub member_resource : (s : Scope) (fronts : List Front) (resources : List (Option ResourceId)) (ms : List code.Member) (i : ℕ) (x : code.Member) → i < length ms → x ≡ get_or ms i x → AreFronted fronts ms → resources ≡ map (front_resource s) fronts → HasResource s resources x
 member_resource s fronts resources ms i x lt is a e = has_resource s fronts resources x e (all_at (IsFronted fronts) ms i x lt is a.each)
-
-each_view : {A B C : Type 0} (meant : B → Option C) (view : A → B) (xs : List A) → each_meaning (λ x. meant (view x)) xs ≡ each_meaning meant (map view xs)
-each_view meant view [] = refl
-each_view meant view (x ∷ xs) = rw (each_view meant view xs) refl
 
 abbrev pub meant_in : code_scope.Scope → Types → code.Member → Option NamedItem
 meant_in sc t m = member_item (scope_in (types_of t) sc) (member_view m)

@@ -2,9 +2,7 @@ mod ThereLaws
 mod OwnLaws
 mod WorldLaws
 mod ListLaws
-mod GrowthLaws
-mod ScopeLaws
 mod EachLaws
 mod PushLaws
-mod ItemLaws
+pub mod ItemLaws
 mod FrontLaws

@@ -12,9 +12,7 @@ use Rattle.cm_wit_meanings.specs.Meanings.{def_meaning}
 use Rattle.cm_wit_tables.specs.Declarations.{Declared, Declaration, brought, defined, referred, refers, target, IsRanked}
 use Rattle.cm_wit_tables.specs.Tables.{resource_of, scope_of, declared_meaning, entry_meaning, Solves}
 use Rattle.cm_wit_items.specs.Own.{IsOwn, AreOwn}
-
-some_is : {A : Type 0} (a b : A) → Some a ≡ Some b → a ≡ b
-some_is a b e = cc
+use Rattle.cm_lemmas.proofs.Options.{some_is}
 
 value_own : {A : Type 0} (g : A → Meaning) (o : Option A) (m : Meaning) → ((a : A) → IsOwn (g a)) → option_map g o ≡ Some m → IsOwn m
 value_own g None m h e = absurd cc

@@ -6,8 +6,8 @@ use Rattle.cm_types_arena.specs.Places.{types_of, funcs_of}
 use Rattle.cm_types_arena.specs.declared.types.Types.{Types}
 use Rattle.cm_wit_meanings.specs.Meanings.{each_meaning}
 use Rattle.cm_wit_meanings.specs.Places.{Extends}
-use Rattle.cm_wit_items.proofs.GrowthLaws.{extends_same, extends_more}
 use Rattle.cm_wit_items.proofs.EachLaws.{Makes, makes_none, makes_next, makes_all}
+use Rattle.cm_wit_meanings.proofs.GrowthLaws.{extends_more, extends_same}
 
 -- An arena has the types that it had, and those of functions, and maybe more.
 pub record Grown (old new : Types) : Type 0 where

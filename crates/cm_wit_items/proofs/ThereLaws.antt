@@ -1,39 +1,27 @@
 -- Where each name leads to a type, and that of a borrow to a resource, texts stand for something.
-use Rattle.std.proofs.Common.{◌≡◌, ℕ, suc, ◌+◌, ◌<◌, Bool, true, false, cond, List, [], ◌∷◌, ◌++◌, length, Option, Some, None, unwrap_or, slice_get, slice_index_or, refl, ap, ◌∙◌, sym, arith}
-use Rattle.std.specs.List.{AllByRecursion, position_from}
+use Rattle.std.proofs.Common.{◌≡◌, ℕ, List, [], ◌∷◌, Option, Some, None, unwrap_or, slice_get, slice_index_or, refl, ap, ◌∙◌, sym}
+use Rattle.std.specs.List.{AllByRecursion}
 use Rattle.std.specs.Option.{option_map, option_and_then}
 use Rattle.std.proofs.lemmas.Option.{unwrap_or-slice_get}
-use Rattle.std.proofs.lemmas.List.{length-map}
 use Rattle.cm_types.specs.declared.resource.ResourceId.{ResourceId}
 use Rattle.cm_types.specs.Types as cm
 use Rattle.cm_types.specs.TypeTrees.{fields_from}
-use Rattle.cm_names.specs.Keys.{Key, is_key}
+use Rattle.cm_names.specs.Keys.{Key}
 use Rattle.cm_wit_reading.specs.Types.{Ty, Tys, primitive, named, borrow, list, fixed_list, option, tuple, plain_result, ok_result, error_result, result, no_types, types}
 use Rattle.cm_wit_reading.specs.Signatures.{Typed, Func}
 use Rattle.cm_wit_reading.specs.Trees.{ResourceFunc, method, static, constructor}
 use Rattle.cm_wit_meanings.specs.Scopes.{Meaning, Scope, resource, as_type, as_resource}
 use Rattle.cm_wit_meanings.specs.Meanings as meant
 use Rattle.cm_wit_meanings.specs.Meanings.{meaning, meanings, each_meaning, typed_meaning, payload_meaning, func_meaning, resource_func_meaning}
-use Rattle.cm_wit_tables.specs.Declarations.{Declaration, names_in, names_in_all, names_in_payload, target, keys_of, key_of}
+use Rattle.cm_wit_tables.specs.Declarations.{Declaration, names_in, names_in_all, names_in_payload, target}
 use Rattle.cm_wit_tables.specs.Tables.{scope_of, IsWhole}
 use Rattle.cm_wit_tables.specs.TypeFaults.{IsResource, LeadsToType, LeadsToResource, borrowed_in, borrowed_in_all, borrowed_in_payload}
 use Rattle.cm_wit_items.specs.Members.{Member, used, declared, of_resource, function, used_type, own_type, member_func, member_item, item_with, func_name}
 use Rattle.cm_wit_items.specs.Named.{Lead, FuncHasTypes, ResourceFuncHasTypes, MemberHasTypes, names_in_params, borrowed_in_params}
 use Rattle.cm_types.specs.Signatures.{func_item}
-
-abbrev pub Has : {A : Type 0} → Option A → Type 0
-Has {A} o = (x : A) × (o ≡ Some x)
-
-pub mapped : {A B : Type 0} (g : A → B) (o : Option A) → Has o → Has (option_map g o)
-mapped g o h = (g h.0, ap (option_map g) h.1)
-
-all_left : {A : Type 0} (P : A → Type 0) (xs ys : List A) → AllByRecursion P (xs ++ ys) → AllByRecursion P xs
-all_left P [] ys h = tt
-all_left P (x ∷ xs) ys h = (h.0, all_left P xs ys h.1)
-
-all_right : {A : Type 0} (P : A → Type 0) (xs ys : List A) → AllByRecursion P (xs ++ ys) → AllByRecursion P ys
-all_right P [] ys h = h
-all_right P (x ∷ xs) ys h = all_right P xs ys h.1
+use Rattle.cm_lemmas.proofs.Options.{Has, has_mapped}
+use Rattle.cm_lemmas.proofs.Lists.{all_left, all_right}
+use Rattle.cm_wit_tables.proofs.RankLaws.{target_below}
 
 -- ---- what the names in a scope stand for
 
@@ -47,15 +35,15 @@ module _ (s : Scope) where
   mutual
     type_there : (t : Ty) → AllByRecursion IsThere (names_in t) → AllByRecursion IsOne (borrowed_in t) → Has (meaning s t)
     type_there (primitive p) h b = (meant.primitive_type p, refl)
-    type_there (named n) h b = mapped as_type (s n) h.0
+    type_there (named n) h b = has_mapped as_type (s n) h.0
     type_there (borrow n) h b = (cm.borrow b.0.0, ap (λ (m : Option Meaning). option_map cm.borrow (option_and_then as_resource m)) b.0.1)
-    type_there (list t) h b = mapped cm.list (meaning s t) (type_there t h b)
-    type_there (fixed_list t n) h b = mapped (λ x. cm.fixed_list x n) (meaning s t) (type_there t h b)
-    type_there (option t) h b = mapped meant.option_of (meaning s t) (type_there t h b)
-    type_there (tuple ts) h b = mapped meant.tuple_of (meanings s ts) (types_there ts h b)
+    type_there (list t) h b = has_mapped cm.list (meaning s t) (type_there t h b)
+    type_there (fixed_list t n) h b = has_mapped (λ x. cm.fixed_list x n) (meaning s t) (type_there t h b)
+    type_there (option t) h b = has_mapped meant.option_of (meaning s t) (type_there t h b)
+    type_there (tuple ts) h b = has_mapped meant.tuple_of (meanings s ts) (types_there ts h b)
     type_there plain_result h b = (meant.result_of None None, refl)
-    type_there (ok_result t) h b = mapped (λ x. meant.result_of (Some x) None) (meaning s t) (type_there t h b)
-    type_there (error_result t) h b = mapped (λ x. meant.result_of None (Some x)) (meaning s t) (type_there t h b)
+    type_there (ok_result t) h b = has_mapped (λ x. meant.result_of (Some x) None) (meaning s t) (type_there t h b)
+    type_there (error_result t) h b = has_mapped (λ x. meant.result_of None (Some x)) (meaning s t) (type_there t h b)
     type_there (result t v) h b =
         let p = type_there t (all_left IsThere (names_in t) (names_in v) h) (all_left IsOne (borrowed_in t) (borrowed_in v) b) in
         let q = type_there v (all_right IsThere (names_in t) (names_in v) h) (all_right IsOne (borrowed_in t) (borrowed_in v) b) in
@@ -77,7 +65,7 @@ module _ (s : Scope) where
 
   payload_there : (p : Option Ty) → AllByRecursion IsThere (names_in_payload p) → AllByRecursion IsOne (borrowed_in_payload p) → Has (payload_meaning s p)
   payload_there None h b = (None, refl)
-  payload_there (Some t) h b = mapped Some (meaning s t) (type_there t h b)
+  payload_there (Some t) h b = has_mapped Some (meaning s t) (type_there t h b)
 
   abbrev AreThere : List (List ℕ) → List (List ℕ) → Type 0
   AreThere names borrowed = AllByRecursion IsThere names × AllByRecursion IsOne borrowed
@@ -89,20 +77,6 @@ module _ (s : Scope) where
       (record { params = fields_from p.0; result = q.0 }, rw (p.1, q.1) refl)
 
 -- ---- what the names of a list lead to
-
-target_below_by : (t : Bool) (i n k : ℕ) (rest : Option ℕ) → (rest ≡ Some k → k < i + 1 + n) → cond t (Some i) rest ≡ Some k → k < i + suc n
-target_below_by true i n k rest h f = let same = some_is i k f in omega (arith, same)
-  where
-    some_is : (a b : ℕ) → Some a ≡ Some b → a ≡ b
-    some_is a b f = cc
-target_below_by false i n k rest h f = let low = h f in omega (arith, low)
-
-position_below : {A : Type 0} (p : A → Bool) (i : ℕ) (xs : List A) (k : ℕ) → position_from p i xs ≡ Some k → k < i + length xs
-position_below p i [] k e = absurd cc
-position_below p i (x ∷ xs) k e = target_below_by (p x) i (length xs) k (position_from p (i + 1) xs) (position_below p (i + 1) xs k) e
-
-target_below : (ds : List Declaration) (key : Key) (j : ℕ) → target ds key ≡ Some j → j < length ds
-target_below ds key j e = let low = position_below (is_key key.0 key.1) 0 (keys_of ds) j e in omega (arith, low, length-map ds key_of)
 
 at_got : (table : List (Option Meaning)) (k : ℕ) (m : Option Meaning) → slice_get table k ≡ Some m → slice_index_or table k None ≡ m
 at_got table k m e = sym (unwrap_or-slice_get table k None) ∙ ap (λ o. unwrap_or o None) e
@@ -133,11 +107,11 @@ module _ (ds : List Declaration) (table : List (Option Meaning)) (whole : IsWhol
   typed_func l f h = func_there (scope_of ds table l) f (lead_there l (names_in_params f.params) (borrowed_in_params f.params) h.0) (lead_there l (names_in_payload f.result) (borrowed_in_payload f.result) h.1)
 
   typed_resource_func : (l : ℕ) (r : ResourceId) (f : ResourceFunc) → ResourceFuncHasTypes ds l f → Has (resource_func_meaning (scope_of ds table l) r f)
-  typed_resource_func l r (method n f) h = mapped (meant.with_self r) (func_meaning (scope_of ds table l) f) (typed_func l f h)
+  typed_resource_func l r (method n f) h = has_mapped (meant.with_self r) (func_meaning (scope_of ds table l) f) (typed_func l f h)
   typed_resource_func l r (static n f) h = typed_func l f h
   typed_resource_func l r (constructor ps) h =
       let g = lead_there l (names_in_params ps) (borrowed_in_params ps) h in
-      mapped (λ ts. record { params = fields_from ts; result = Some (cm.own r) }) (each_meaning (typed_meaning (scope_of ds table l)) ps) (fields_there (scope_of ds table l) ps g.0 g.1)
+      has_mapped (λ ts. record { params = fields_from ts; result = Some (cm.own r) }) (each_meaning (typed_meaning (scope_of ds table l)) ps) (fields_there (scope_of ds table l) ps g.0 g.1)
 
   typed_of_resource : (l : ℕ) (n : List ℕ) (f : ResourceFunc) (m : Option Meaning) (r : ResourceId) → m ≡ Some (resource r) → ResourceFuncHasTypes ds l f → Has (option_and_then (λ x. resource_func_meaning (scope_of ds table l) x f) (option_and_then as_resource m))
   typed_of_resource l n f m r e h =
@@ -145,12 +119,12 @@ module _ (ds : List Declaration) (table : List (Option Meaning)) (whole : IsWhol
       (p.0, ap (λ (o : Option Meaning). option_and_then (λ x. resource_func_meaning (scope_of ds table l) x f) (option_and_then as_resource o)) e ∙ p.1)
 
   pub typed_member : (l : ℕ) (m : Member) → MemberHasTypes ds l m → Has (member_item (scope_of ds table l) m)
-  typed_member l (used n) h = mapped (λ x. item_with n (used_type x)) (scope_of ds table l n) (name_there l n h)
-  typed_member l (declared n) h = mapped (λ x. item_with n (own_type x)) (scope_of ds table l n) (name_there l n h)
+  typed_member l (used n) h = has_mapped (λ x. item_with n (used_type x)) (scope_of ds table l n) (name_there l n h)
+  typed_member l (declared n) h = has_mapped (λ x. item_with n (own_type x)) (scope_of ds table l n) (name_there l n h)
   typed_member l (of_resource n f) h =
       let p = one_there l n h.0 in
-      mapped (λ t. item_with (func_name n f) (func_item t)) (member_func (scope_of ds table l) n f) (typed_of_resource l n f (scope_of ds table l n) p.0 p.1 h.1)
-  typed_member l (function n f) h = mapped (λ t. item_with n (func_item t)) (func_meaning (scope_of ds table l) f) (typed_func l f h)
+      has_mapped (λ t. item_with (func_name n f) (func_item t)) (member_func (scope_of ds table l) n f) (typed_of_resource l n f (scope_of ds table l n) p.0 p.1 h.1)
+  typed_member l (function n f) h = has_mapped (λ t. item_with n (func_item t)) (func_meaning (scope_of ds table l) f) (typed_func l f h)
 
   pub typed_members : (l : ℕ) (ms : List Member) → AllByRecursion (MemberHasTypes ds l) ms → Has (each_meaning (member_item (scope_of ds table l)) ms)
   typed_members l [] h = ([], refl)

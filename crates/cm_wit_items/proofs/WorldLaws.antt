@@ -1,8 +1,7 @@
 -- Where each name leads to a type, a world has a signature.
-use Rattle.std.proofs.Common.{◌≡◌, ℕ, zero, suc, ◌+◌, ◌-◌, ◌<◌, nat_lt, Bool, true, false, cond, if◌then◌else◌, List, [], ◌∷◌, ◌++◌, length, map, Option, Some, None, MatchOption, slice_get, refl, ap, subst, ◌∙◌, arith}
+use Rattle.std.proofs.Common.{◌≡◌, ℕ, suc, ◌+◌, ◌-◌, ◌<◌, nat_lt, Bool, true, false, cond, if◌then◌else◌, List, [], ◌∷◌, ◌++◌, length, map, Option, Some, None, MatchOption, slice_get, refl, ap, subst, ◌∙◌, arith}
 use Rattle.std.specs.List.{AllByRecursion}
 use Rattle.std.specs.Option.{option_and_then}
-use Rattle.std.proofs.lemmas.Bool.Decides.{nat_tests}
 use Rattle.cm_types.specs.declared.resource.ResourceId.{ResourceId}
 use Rattle.cm_types.specs.Signatures.{NamedExtern, func, instance}
 use Rattle.cm_wit_reading.specs.Trees.{File, WorldItem}
@@ -15,21 +14,11 @@ use Rattle.cm_wit_tables.specs.Worlds.{Instance, instances, declarations}
 use Rattle.cm_wit_items.specs.Members.{members, items_in}
 use Rattle.cm_wit_items.specs.Signatures.{NamedFunc, item_func, func_at, func_extern, interface_extern, instance_extern, in_front, func_in_front, externs_from, interfaces_among, signature_in}
 use Rattle.cm_wit_items.specs.Named.{FuncHasTypes, MemberHasTypes, OwnFuncsHaveTypes, HaveTypes, imported}
-use Rattle.cm_wit_items.proofs.ThereLaws.{Has, mapped, typed_func, typed_members}
+use Rattle.cm_wit_items.proofs.ThereLaws.{typed_func, typed_members}
 use Rattle.cm_wit_meanings.specs.Meanings.{func_meaning}
-
-got_within : {A : Type 0} (xs : List A) (k : ℕ) → k < length xs → Has (slice_get xs k)
-got_within [] k lt = absurd (omega (arith, lt))
-got_within (x ∷ xs) zero lt = (x, refl)
-got_within (x ∷ xs) (suc k) lt = got_within xs k (omega (arith, lt))
-
-all_at : {A : Type 0} (P : A → Type 0) (xs : List A) (k : ℕ) (x : A) → AllByRecursion P xs → slice_get xs k ≡ Some x → P x
-all_at P [] k x h e = absurd cc
-all_at P (y ∷ ys) zero x h e = let same : y ≡ x = cc in subst P same h.0
-all_at P (y ∷ ys) (suc k) x h e = all_at P ys k x h.1 e
-
-less_of : (j count : ℕ) → nat_lt j count ≡ true → j < count
-less_of j count e = grind (arith, nat_tests)
+use Rattle.cm_lemmas.proofs.Options.{Has, has_mapped}
+use Rattle.cm_lemmas.proofs.Lists.{got_at, get_front, get_map, got_within}
+use Rattle.cm_lemmas.proofs.Numbers.{less_of}
 
 pub both_there : {A : Type 0} (one : Option A) (others : Option (List A)) → Has one → Has others → Has (in_front one others)
 both_there one others p q = (p.0 ∷ q.0, rw (p.1, q.1) refl)
@@ -43,13 +32,13 @@ module _ (fs : List File) (w : PlacedWorld) (ds : List Declaration) (table : Lis
 
   instance_by : (l : ℕ) (o : Option PlacedInterface) → Has o → ((i : PlacedInterface) → o ≡ Some i → AllByRecursion (MemberHasTypes ds l) (members i.interface)) → Has (option_and_then (interface_extern (scope_of ds table l)) o)
   instance_by l None h t = let e = h.1 in absurd cc
-  instance_by l (Some i) h t = mapped (λ is. record { name = full_name i.file i.interface.name; desc = instance is }) (items_in (scope_of ds table l) i.interface) (typed_members ds table whole ones l (members i.interface) (t i refl))
+  instance_by l (Some i) h t = has_mapped (λ is. record { name = full_name i.file i.interface.name; desc = instance is }) (items_in (scope_of ds table l) i.interface) (typed_members ds table whole ones l (members i.interface) (t i refl))
 
   instance_there : (l n : ℕ) → n < length (interfaces fs) → Typed l n → Has (instance_extern (interfaces fs) (scope_of ds table l) n)
   instance_there l n lt t = instance_by l (slice_get (interfaces fs) n) (got_within (interfaces fs) n lt) t
 
   func_there : (f : NamedFunc) → FuncHasTypes ds own f.1 → Has (func_extern (scope_of ds table own) f)
-  func_there f h = mapped (λ t. record { name = f.0; desc = func t }) (func_meaning (scope_of ds table own) f.1) (typed_func ds table whole ones own f.1 h)
+  func_there f h = has_mapped (λ t. record { name = f.0; desc = func t }) (func_meaning (scope_of ds table own) f.1) (typed_func ds table whole ones own f.1 h)
 
   front_there : (o : Option NamedFunc) (others : Option (List NamedExtern)) → MatchOption o (Unit {0}) (λ f. FuncHasTypes ds own f.1) → Has others → Has (func_in_front (scope_of ds table own) o others)
   front_there None others h q = q
@@ -60,7 +49,7 @@ module _ (fs : List File) (w : PlacedWorld) (ds : List Declaration) (table : Lis
   at_item (Some e) h = h e refl
 
   func_typed : (j : ℕ) → MatchOption (func_at w j) (Unit {0}) (λ f. FuncHasTypes ds own f.1)
-  func_typed j = at_item (slice_get w.world.items j) (λ e q. all_at (λ x. MatchOption (item_func x) (Unit {0}) (λ f. FuncHasTypes ds own f.1)) w.world.items j e funcs q)
+  func_typed j = at_item (slice_get w.world.items j) (λ e q. got_at (λ x. MatchOption (item_func x) (Unit {0}) (λ f. FuncHasTypes ds own f.1)) w.world.items j e funcs q)
 
   abbrev pub TypedFrom : ℕ → List ℕ → Type 0
   TypedFrom l ns = (k n : ℕ) → slice_get (interfaces_among (interfaces fs) ns) k ≡ Some n → Typed (l + k) n
@@ -83,16 +72,6 @@ module _ (fs : List File) (w : PlacedWorld) (ds : List Declaration) (table : Lis
 
 -- ---- the instances of a world
 
-get_map : {A B : Type 0} (g : A → B) (xs : List A) (k : ℕ) (x : A) → slice_get xs k ≡ Some x → slice_get (map g xs) k ≡ Some (g x)
-get_map g [] k x e = absurd cc
-get_map g (y ∷ ys) zero x e = let same : y ≡ x = cc in ap (λ (a : _). Some (g a)) same
-get_map g (y ∷ ys) (suc k) x e = get_map g ys k x e
-
-get_left : {A : Type 0} (xs ys : List A) (k : ℕ) (x : A) → slice_get xs k ≡ Some x → slice_get (xs ++ ys) k ≡ Some x
-get_left [] ys k x e = absurd cc
-get_left (y ∷ xs) ys zero x e = e
-get_left (y ∷ xs) ys (suc k) x e = get_left xs ys k x e
-
 get_right : {A B : Type 0} (g : A → B) (xs : List A) (ys : List B) (k : ℕ) (y : B) → slice_get ys k ≡ Some y → slice_get (map g xs ++ ys) (length xs + k) ≡ Some y
 get_right g [] ys k y e = let n : 0 + k ≡ k = omega arith in ap (slice_get ys) n ∙ e
 get_right g (x ∷ xs) ys k y e = let n : suc (length xs) + k ≡ suc (length xs + k) = omega arith in ap (slice_get (g x ∷ (map g xs ++ ys))) n ∙ get_right g xs ys k y e
@@ -109,7 +88,7 @@ module _ (fs : List File) (w : PlacedWorld) (into out : List ℕ) (table : List 
     into_typed : TypedFrom fs w ds table (length xs) whole ones typed.of_world 0 into
     into_typed k n e i q =
         subst (λ (l : ℕ). AllByRecursion (MemberHasTypes ds l) (members i.interface)) (omega arith)
-        (typed.of_instances k (imported n) i (get_left (map imported (interfaces_among (interfaces fs) into)) (map (λ m. record { exported = true; interface = m }) (interfaces_among (interfaces fs) out)) k (imported n) (get_map imported (interfaces_among (interfaces fs) into) k n e)) q)
+        (typed.of_instances k (imported n) i (get_front (map imported (interfaces_among (interfaces fs) into)) (map (λ m. record { exported = true; interface = m }) (interfaces_among (interfaces fs) out)) k (imported n) (get_map imported (interfaces_among (interfaces fs) into) k n e)) q)
 
     out_typed : TypedFrom fs w ds table (length xs) whole ones typed.of_world (length (interfaces_among (interfaces fs) into)) out
     out_typed k n e i q =

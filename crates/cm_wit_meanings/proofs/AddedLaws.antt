@@ -1,5 +1,5 @@
 -- What comes of adding types, one after another.
-use Rattle.std.proofs.Common.{◌≡◌, ℕ, ◌≤◌, List, length, Option, Some, None, IfOk, refl, sym, ap, subst, ◌∙◌, Result, Ok, Err}
+use Rattle.std.proofs.Common.{◌≡◌, ℕ, List, length, Option, Some, None, IfOk, refl, sym, ap, subst, ◌∙◌, Result, Ok, Err}
 use Rattle.std.specs.Option.{option_map}
 use Rattle.cm_types.specs.Types.{Ty}
 use Rattle.cm_types.specs.Limits.{IsWithinLimits}
@@ -11,7 +11,8 @@ use Rattle.cm_wit_meanings.specs.Added.{Added, AddedPayload, AddedType, is_place
 use Rattle.cm_wit_meanings.specs.Meanings.{result_of}
 use Rattle.cm_wit_meanings.specs.Places.{Extends}
 use Rattle.cm_wit_meanings.proofs.FaultLaws.{both_of}
-use Rattle.cm_wit_meanings.proofs.GrowthLaws.{arena_within, below_more, extends_length, extends_more, extends_same, place_kept}
+use Rattle.cm_wit_meanings.proofs.GrowthLaws.{arena_within, extends_length, extends_more, extends_same, place_kept}
+use Rattle.cm_types_arena.proofs.PlaceLaws.{option_more}
 
 -- what is there already
 pub stands : {A D : Type 0} (view : List Ty → D → A) (IsThere : ℕ → D → Type 0) (IsFault : Option A → MeaningFault → Type 0) (types : Types) (meant : Option A) (d : D) → IsThere (length (types_of types)) d → meant ≡ Some (view (types_of types) d) → Added view IsThere IsFault types types meant (Ok d)
@@ -49,15 +50,11 @@ payload_kept : (old new : List Ty) (p : Option ℕ) → Extends old new → IsBe
 payload_kept old new None e h = refl
 payload_kept old new (Some p) e h = ap Some (place_kept old new p e h)
 
-payload_below : (m n : ℕ) (p : Option ℕ) → m ≤ n → IsBelow m p → IsBelow n p
-payload_below m n None le h = tt
-payload_below m n (Some p) le h = below_more m n p le h
-
 pub payload_added : {old new : Types} {meant : Option Ty} {p : ℕ} → AddedType old new meant (Ok p) → AddedPayload old new (option_map Some meant) (Ok (Some p))
 payload_added a = record { there = a.there; meaning = ap (option_map Some) a.meaning; fault = tt; grown = a.grown; funcs = a.funcs }
 
 pub still_there : {old new : Types} {meant : Option (Option Ty)} {r : Result (Option ℕ) MeaningFault} (p : Option ℕ) → AddedPayload old new meant r → IsBelow (length (types_of old)) p → IsBelow (length (types_of new)) p
-still_there {old} {new} p h there = payload_below (length (types_of old)) (length (types_of new)) p (extends_length (types_of old) (types_of new) h.grown) there
+still_there {old} {new} p h there = option_more (length (types_of old)) (length (types_of new)) p (extends_length (types_of old) (types_of new) h.grown) there
 
 both_told : (a b : Option (Option Ty)) (x y : Option Ty) → a ≡ Some x → b ≡ Some y → both_of a b ≡ Some (result_of x y)
 both_told a b x y e q = rw (e, q) refl

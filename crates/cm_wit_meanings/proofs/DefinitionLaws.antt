@@ -1,8 +1,8 @@
 -- What definitions stand for.
-use Rattle.std.proofs.Common.{◌≡◌, ℕ, List, [], ◌∷◌, Option, Some, None, refl, ap, ◌∙◌, sym, Vec, Global}
-use Rattle.std.specs.List.{AllZip}
+use Rattle.std.proofs.Common.{◌≡◌, List, Option, Some, None, refl, ap, ◌∙◌, sym, Vec, Global}
 use Rattle.std.specs.Option.{option_map}
 use Rattle.std.specs.Prelude.{map}
+use Rattle.std.proofs.lemmas.Bool.{and_right}
 use Rattle.cm_types.specs.declared.resource.ResourceId.{ResourceId}
 use Rattle.cm_types.specs.TypeTrees.{TypedLabel, fields_from}
 use Rattle.cm_types.specs.Spellable.{are_spellable}
@@ -17,7 +17,6 @@ use Rattle.cm_wit_meanings.specs.declared.fault.MeaningFault.TheVariants as faul
 use Rattle.cm_wit_meanings.specs.Scopes.{Scope, value}
 use Rattle.cm_wit_meanings.specs.Meanings.{case_meaning, def_meaning, each_meaning, record_of, typed_meaning, variant_of}
 use Rattle.cm_wit_meanings.specs.Faults.{AreFieldsFault, IsTypeFault}
-use Rattle.cm_wit_meanings.proofs.WitDefinitionsFaultLaws.{both_false}
 
 pub record_refused : (o : Option (List TypedLabel)) (f : MeaningFault) → AreFieldsFault o f → IsTypeFault (option_map record_of o) f
 record_refused None fault.NoSuchType h = refl
@@ -25,15 +24,8 @@ record_refused (Some fs) fault.NoSuchType h = absurd cc
 record_refused None fault.TooLarge h = tt
 record_refused (Some fs) fault.TooLarge h = h
 record_refused None fault.NotSpellable h = tt
-record_refused (Some fs) fault.NotSpellable h = both_false _ (are_spellable (fields_from fs)) h
+record_refused (Some fs) fault.NotSpellable h = and_right _ (are_spellable (fields_from fs)) h
 record_refused o fault.Memory h = tt
-
--- names that were cloned
-pub cloned : (xs ys : List (List ℕ)) → AllZip (λ x y. y ≡ x) xs ys → ys ≡ xs
-cloned [] [] h = refl
-cloned [] (y ∷ ys) h = absurd h
-cloned (x ∷ xs) [] h = absurd h
-cloned (x ∷ xs) (y ∷ ys) h = rw (h.0, cloned xs ys h.1) refl
 
 -- ---- what a text of each kind stands for
 

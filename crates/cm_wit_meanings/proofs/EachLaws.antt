@@ -1,7 +1,8 @@
 -- What several things stand for, one after another.
-use Rattle.std.proofs.Common.{◌≡◌, ℕ, suc, ◌<◌, ◌≤◌, ◌+◌, Bool, false, List, [], ◌∷◌, ◌++◌, length, map, drop, get_or, Option, Some, None, refl, sym, ap, ◌∙◌, arith, append-nil, append_assoc, drop-cons, add-one, subst}
+use Rattle.std.proofs.Common.{◌≡◌, ℕ, ◌<◌, ◌≤◌, ◌+◌, Bool, false, List, [], ◌∷◌, ◌++◌, length, map, drop, get_or, Option, Some, None, refl, sym, ap, ◌∙◌, arith, append-nil, subst}
 use Rattle.std.specs.Option.{option_map, option_and_then}
 use Rattle.std.proofs.lemmas.List.{drop_all}
+use Rattle.std.proofs.lemmas.Bool.{and_right, and_left}
 use Rattle.cm_types.specs.Types.{Ty}
 use Rattle.cm_types.specs.TypeTrees.{parts_from}
 use Rattle.cm_types.specs.Limits.{IsWithin, IsWithinLimits, nodes_of_fields, depth_of_fields}
@@ -14,26 +15,11 @@ use Rattle.cm_wit_meanings.specs.declared.fault.MeaningFault.TheVariants as faul
 use Rattle.cm_wit_meanings.specs.Scopes.{Scope}
 use Rattle.cm_wit_meanings.specs.Meanings.{each_meaning, meaning, meanings, tuple_of}
 use Rattle.cm_wit_meanings.specs.Faults.{IsFaultOf}
-use Rattle.cm_wit_meanings.proofs.FaultLaws.{both_false, first_false}
-
--- these behind those
-abbrev pub behind : {B : Type 0} → List B → Option (List B) → Option (List B)
-behind front o = option_map (λ ys. front ++ ys) o
-
-behind_none : {B : Type 0} (o : Option (List B)) → behind [] o ≡ o
-behind_none None = refl
-behind_none (Some ys) = refl
-
-behind_one : {B : Type 0} (front : List B) (y : B) (o : Option (List B)) → behind (front ++ y ∷ []) o ≡ behind front (option_map (λ ys. y ∷ ys) o)
-behind_one front y None = refl
-behind_one front y (Some ys) = ap Some (append_assoc front (y ∷ []) ys)
+use Rattle.cm_lemmas.proofs.Lists.{behind, behind_none, behind_one, rest_from}
 
 -- What these stand for was found up to the i-th, and with the rest makes all.
 pub record Makes {A B : Type 0} (meant : A → Option B) (all : List A) (i : ℕ) (now : List B) : Type 0 where
   pub is : behind now (each_meaning meant (drop i all)) ≡ each_meaning meant all
-
-rest_from : {A : Type 0} (all : List A) (i : ℕ) (x : A) → i < length all → x ≡ get_or all i x → drop i all ≡ x ∷ drop (i + 1) all
-rest_from all i x lt e = drop-cons all i x lt ∙ (ap (λ (a : _). a ∷ drop (suc i) all) (sym e) ∙ rw (add-one i) refl)
 
 -- what one stands for, in front of what the others do
 abbrev pub in_front : {B : Type 0} → Option B → Option (List B) → Option (List B)
@@ -87,11 +73,11 @@ part_within front t rest w =
     (omega (arith, p.0), omega (arith, p.1))
 
 parts_spelled : (front : List Ty) (t : Ty) (rest : List Ty) → is_spellable t ≡ false → are_spellable (parts_from (front ++ t ∷ rest)) ≡ false
-parts_spelled [] t rest h = first_false (is_spellable t) (are_spellable (parts_from rest)) h
-parts_spelled (x ∷ xs) t rest h = both_false (is_spellable x) (are_spellable (parts_from (xs ++ t ∷ rest))) (parts_spelled xs t rest h)
+parts_spelled [] t rest h = and_left (is_spellable t) (are_spellable (parts_from rest)) h
+parts_spelled (x ∷ xs) t rest h = and_right (is_spellable x) (are_spellable (parts_from (xs ++ t ∷ rest))) (parts_spelled xs t rest h)
 
 pub part_spelled : (front : List Ty) (t : Ty) (rest : List Ty) → is_spellable t ≡ false → is_spellable (tuple_of (front ++ t ∷ rest)) ≡ false
-part_spelled front t rest h = both_false _ (are_spellable (parts_from (front ++ t ∷ rest))) (parts_spelled front t rest h)
+part_spelled front t rest h = and_right _ (are_spellable (parts_from (front ++ t ∷ rest))) (parts_spelled front t rest h)
 
 pub types_each : (s : Scope) (texts : List WitType) → each_meaning (λ x. meaning s (type_tree x)) texts ≡ meanings s (types_from (map type_tree texts))
 types_each s [] = refl

@@ -1,7 +1,7 @@
 -- Faults of parts are faults of the whole.
-use Rattle.std.proofs.Common.{◌≡◌, ℕ, ◌≤◌, ◌*◌, max, Bool, true, false, ◌&&◌, nat_lt, Option, Some, None, IfSome, refl, ap, arith}
-use Rattle.std.proofs.Math.Nat.{le-mul_of_pos_right, mul_comm}
+use Rattle.std.proofs.Common.{◌≡◌, ℕ, true, false, ◌&&◌, nat_lt, Option, Some, None, IfSome, refl, arith}
 use Rattle.std.specs.Option.{option_map, option_and_then}
+use Rattle.std.proofs.lemmas.Bool.{and_right, and_left}
 use Rattle.cm_types.specs.Types.{Ty, list, fixed_list}
 use Rattle.cm_types.specs.Limits.{IsWithinLimits, nodes_of}
 use Rattle.cm_types.specs.Spellable.{is_spellable, is_spellable_payload}
@@ -9,13 +9,7 @@ use Rattle.cm_wit_meanings.specs.declared.fault.MeaningFault.{MeaningFault}
 use Rattle.cm_wit_meanings.specs.declared.fault.MeaningFault.TheVariants as fault
 use Rattle.cm_wit_meanings.specs.Meanings.{option_of, result_of}
 use Rattle.cm_wit_meanings.specs.Faults.{IsTypeFault, IsFaultIn, IsPayloadFault}
-
-pub both_false : (a b : Bool) → b ≡ false → (a && b) ≡ false
-both_false true b h = h
-both_false false b h = refl
-
-pub first_false : (a b : Bool) → a ≡ false → (a && b) ≡ false
-first_false a b h = ap (λ (x : Bool). x && b) h
+use Rattle.cm_lemmas.proofs.Numbers.{times_least}
 
 -- ---- what has one part
 
@@ -29,20 +23,15 @@ module _ (g : Ty → Ty) (within : (t : Ty) → IsWithinLimits (g t) → IsWithi
   above_fault (Some t) fault.NotSpellable h = spelled t h
   above_fault o fault.Memory h = tt
 
-times_least : (n x : ℕ) → x ≤ max n 1 * x
-times_least n x =
-    let p : x ≤ x * max n 1 = le-mul_of_pos_right {m = max n 1} x (omega arith) in
-    rw (mul_comm (max n 1) x) p
-
 pub list_fault : (o : Option Ty) (f : MeaningFault) → IsTypeFault o f → IsTypeFault (option_map list o) f
 list_fault o f h = above_fault list (λ t w. (omega (arith, w.0), omega (arith, w.1))) (λ t e. e) o f h
 
 pub fixed_fault : (n : ℕ) (o : Option Ty) (f : MeaningFault) → IsTypeFault o f → IsTypeFault (option_map (λ t. fixed_list t n) o) f
 fixed_fault n o f h =
-    above_fault (λ t. fixed_list t n) (λ t w. (omega (arith, w.0, times_least n (nodes_of t)), omega (arith, w.1))) (λ t e. both_false (nat_lt 0 n) (is_spellable t) e) o f h
+    above_fault (λ t. fixed_list t n) (λ t w. (omega (arith, w.0, times_least n (nodes_of t)), omega (arith, w.1))) (λ t e. and_right (nat_lt 0 n) (is_spellable t) e) o f h
 
 pub option_fault : (o : Option Ty) (f : MeaningFault) → IsTypeFault o f → IsTypeFault (option_map option_of o) f
-option_fault o f h = above_fault option_of (λ t w. (omega (arith, w.0), omega (arith, w.1))) (λ t e. first_false (is_spellable t) true e) o f h
+option_fault o f h = above_fault option_of (λ t w. (omega (arith, w.0), omega (arith, w.1))) (λ t e. and_left (is_spellable t) true e) o f h
 
 -- ---- a result, by its payloads
 
@@ -57,13 +46,13 @@ payloads_within (Some a) (Some b) w = ((omega (arith, w.0), omega (arith, w.1)),
 
 ok_spelled : (x y : Option Ty) → is_spellable_payload x ≡ false → is_spellable (result_of x y) ≡ false
 ok_spelled None y h = absurd cc
-ok_spelled (Some a) None h = first_false (is_spellable a) true h
-ok_spelled (Some a) (Some b) h = first_false (is_spellable a) (is_spellable b && true) h
+ok_spelled (Some a) None h = and_left (is_spellable a) true h
+ok_spelled (Some a) (Some b) h = and_left (is_spellable a) (is_spellable b && true) h
 
 error_spelled : (x y : Option Ty) → is_spellable_payload y ≡ false → is_spellable (result_of x y) ≡ false
 error_spelled x None h = absurd cc
-error_spelled None (Some b) h = first_false (is_spellable b) true h
-error_spelled (Some a) (Some b) h = both_false (is_spellable a) (is_spellable b && true) (first_false (is_spellable b) true h)
+error_spelled None (Some b) h = and_left (is_spellable b) true h
+error_spelled (Some a) (Some b) h = and_right (is_spellable a) (is_spellable b && true) (and_left (is_spellable b) true h)
 
 pub ok_fault : (a b : Option (Option Ty)) (f : MeaningFault) → IsPayloadFault a f → IsTypeFault (both_of a b) f
 ok_fault None b fault.NoSuchType h = refl

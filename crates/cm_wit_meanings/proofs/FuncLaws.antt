@@ -3,6 +3,7 @@ use Rattle.std.proofs.Common.{◌≡◌, ℕ, ◌<◌, ◌≤◌, true, List, []
 use Rattle.std.specs.Option.{option_map, option_and_then}
 use Rattle.std.specs.List.{AllByRecursion}
 use Rattle.std.proofs.lemmas.List.{get_or_push}
+use Rattle.std.proofs.lemmas.Bool.{and_right, and_left}
 use Rattle.cm_types.specs.declared.resource.ResourceId.{ResourceId}
 use Rattle.cm_types_arena.specs.Places.{HasFuncParts, funcs_of, types_of}
 use Rattle.cm_types_arena.specs.declared.types.Types.{Types}
@@ -30,9 +31,10 @@ use Rattle.cm_wit_meanings.specs.Meanings.{func_meaning, each_meaning, typed_mea
 use Rattle.cm_wit_meanings.specs.Faults.{IsFuncWithin, IsFuncFault, AreFieldsFault, IsPayloadFault, IsTypeFault}
 use Rattle.cm_wit_meanings.specs.Added.{AddedType}
 use Rattle.cm_wit_meanings.specs.WitDefinitionsAdded.{AddedFields, AddedFunc}
-use Rattle.cm_wit_meanings.proofs.WitDefinitionsFaultLaws.{both_false, first_false}
-use Rattle.cm_wit_meanings.proofs.WitDefinitionsGrowthLaws.{extends_same, extends_one, extends_more, place_kept, extends_length, arena_within}
-use Rattle.cm_wit_meanings.proofs.WitDefinitionsScopeLaws.{scope_kept}
+use Rattle.cm_wit_meanings.proofs.WitDefinitionsGrowthLaws.{extends_one, arena_within}
+use Rattle.cm_wit_meanings.proofs.GrowthLaws.{extends_length, extends_more, extends_same, place_kept}
+use Rattle.cm_types_arena.proofs.PlaceLaws.{option_more}
+use Rattle.cm_wit_meanings.proofs.ScopeLaws.{scope_kept}
 
 -- ---- the last one
 
@@ -64,7 +66,7 @@ params_refused (Some xs) None fault.TooLarge h = tt
 params_refused (Some xs) (Some u) fault.TooLarge h = λ w. h w.0
 params_refused None t fault.NotSpellable h = tt
 params_refused (Some xs) None fault.NotSpellable h = tt
-params_refused (Some xs) (Some u) fault.NotSpellable h = first_false (are_spellable (fields_from xs)) (is_spellable_payload u) h
+params_refused (Some xs) (Some u) fault.NotSpellable h = and_left (are_spellable (fields_from xs)) (is_spellable_payload u) h
 params_refused ps t fault.Memory h = tt
 
 result_refused_of : (xs : List TypedLabel) (t : Option (Option Ty)) (f : MeaningFault) → IsPayloadFault t f → IsFuncFault (func_from (Some xs) t) f
@@ -73,7 +75,7 @@ result_refused_of xs (Some u) fault.NoSuchType h = absurd cc
 result_refused_of xs None fault.TooLarge h = tt
 result_refused_of xs (Some u) fault.TooLarge h = λ w. h w.1
 result_refused_of xs None fault.NotSpellable h = tt
-result_refused_of xs (Some u) fault.NotSpellable h = both_false (are_spellable (fields_from xs)) (is_spellable_payload u) h
+result_refused_of xs (Some u) fault.NotSpellable h = and_right (are_spellable (fields_from xs)) (is_spellable_payload u) h
 result_refused_of xs t fault.Memory h = tt
 
 pub result_refused : (ps : Option (List TypedLabel)) (xs : List TypedLabel) (t : Option (Option Ty)) (f : MeaningFault) → ps ≡ Some xs → IsPayloadFault t f → IsFuncFault (func_from ps t) f
@@ -137,10 +139,6 @@ option_stays : (old new : List Ty) (p : Option ℕ) → Extends old new → IsBe
 option_stays old new None e h = refl
 option_stays old new (Some p) e h = ap Some (place_kept old new p e h)
 
-option_there : (m n : ℕ) (p : Option ℕ) → m ≤ n → IsBelow m p → IsBelow n p
-option_there m n None le h = tt
-option_there m n (Some p) le h = omega (arith, h)
-
 module _ (old new : List Ty) (r : ResourceId) (e : Extends old new) (d : FuncDef) (parts : HasFuncParts (length old) d) where
   pub self_made : (made : FuncDef) (f : FieldDef) → f.label ≡ codes "self" → type_at new f.ty ≡ borrow r → made.params.items ≡ f ∷ d.params.items → made.result ≡ d.result → func_def_type new made ≡ with_self r (func_def_type old d)
   self_made made f a b q s =
@@ -149,7 +147,7 @@ module _ (old new : List Ty) (r : ResourceId) (e : Extends old new) (d : FuncDef
       rw (q, s, stay, answer, a, b) refl
 
   pub self_there : (made : FuncDef) (f : FieldDef) → f.ty < length new → made.params.items ≡ f ∷ d.params.items → made.result ≡ d.result → HasFuncParts (length new) made
-  self_there made f lt q s = rw (q, s) ((lt, fields_below old new d.params.items e parts.0), option_there (length old) (length new) d.result (extends_length old new e) parts.1)
+  self_there made f lt q s = rw (q, s) ((lt, fields_below old new d.params.items e parts.0), option_more (length old) (length new) d.result (extends_length old new e) parts.1)
 
 pub self_added : (old new : Types) (r : ResourceId) (d : FuncDef) → HasFuncParts (length (types_of old)) d → (f : FieldDef) (made : FuncDef) → AddedType old new (Some (borrow r)) (Ok f.ty) → f.label ≡ codes "self" → made.params.items ≡ f ∷ d.params.items → made.result ≡ d.result → AddedFunc old new (Some (with_self r (func_def_type (types_of old) d))) (Ok made)
 self_added old new r d parts f made a l q s =
@@ -190,7 +188,7 @@ constructor_refused (Some x) r fault.NoSuchType h = absurd cc
 constructor_refused None r fault.TooLarge h = tt
 constructor_refused (Some x) r fault.TooLarge h = λ w. h w.0
 constructor_refused None r fault.NotSpellable h = tt
-constructor_refused (Some x) r fault.NotSpellable h = first_false (are_spellable (fields_from x)) true h
+constructor_refused (Some x) r fault.NotSpellable h = and_left (are_spellable (fields_from x)) true h
 constructor_refused o r fault.Memory h = tt
 
 own_refused : (ts : List TypedLabel) (r : ResourceId) (f : MeaningFault) → IsTypeFault (Some (own r)) f → IsFuncFault (Some (made_by r ts)) f

@@ -1,5 +1,5 @@
 -- Types that are added behind others.
-use Rattle.std.proofs.Common.{◌≡◌, ℕ, zero, suc, ◌<◌, ◌≤◌, List, [], ◌∷◌, ◌++◌, length, get_or, refl, sym, ap, ◌∙◌, arith, length-append, append-nil, append_assoc, subst}
+use Rattle.std.proofs.Common.{◌≡◌, ℕ, ◌<◌, ◌≤◌, List, [], ◌∷◌, ◌++◌, length, refl, sym, ap, ◌∙◌, arith, length-append, append-nil, append_assoc, subst}
 use Rattle.std.proofs.lemmas.List.{get_or_append_left, get_or_push}
 use Rattle.cm_types.specs.Types.{Ty, bool}
 use Rattle.cm_types_arena.specs.TypeDefs.{type_at}
@@ -11,6 +11,7 @@ use Rattle.cm_types.specs.TypeTrees.{type_of}
 use Rattle.cm_types_arena.specs.Arena.{IsArena, types_in}
 use Rattle.cm_types_arena.specs.declared.entries.TypeEntry as arena
 use Rattle.cm_wit_meanings.specs.Places.{Extends}
+use Rattle.cm_types_arena.proofs.ArenaLemmas.{type_there}
 
 pub extends_same : {A : Type 0} (old new : List A) → new ≡ old → Extends old new
 extends_same old new e = ([], e ∙ sym (append-nil old))
@@ -35,15 +36,7 @@ extends_length old new e = let n = ap length e.1 ∙ length-append old e.0 in om
 pub place_kept : (old new : List Ty) (p : ℕ) → Extends old new → p < length old → type_at new p ≡ type_at old p
 place_kept old new p e lt = ap (λ (ts : List Ty). type_at ts p) e.1 ∙ get_or_append_left old e.0 bool p lt
 
-pub below_more : (m n p : ℕ) → m ≤ n → p < m → p < n
-below_more m n p le lt = omega arith
-
 -- ---- the types of an arena are within the limits
-
-type_there : (es : List arena.TypeEntry) (k : ℕ) (d : arena.TypeEntry) → k < length es → type_at (types_in es) k ≡ type_of (get_or es k d).node
-type_there [] k d h = absurd (omega arith)
-type_there (x ∷ es) zero d h = refl
-type_there (x ∷ es) (suc k) d h = type_there es k d (omega arith)
 
 within_there : (es : List arena.TypeEntry) (k : ℕ) (d : arena.TypeEntry) → k < length es → IsArena es → IsWithinLimits (type_at (types_in es) k)
 within_there es k d lt a = subst IsWithinLimits (sym (type_there es k d lt)) (a.entries k d lt).within_limits

@@ -1,16 +1,16 @@
-mod ScopeLaws
-mod GrowthLaws
+pub mod ScopeLaws
+pub mod GrowthLaws
 mod FaultLaws
 mod AddedLaws
 mod EachLaws
 mod PushLaws
 mod TypeLaws
 mod WitDefinitionsGrowthLaws
-mod WitDefinitionsScopeLaws
 mod WitDefinitionsFaultLaws
 mod WitDefinitionsEachLaws
 mod WitDefinitionsPushLaws
 mod WitDefinitionsAddedLaws
-mod MemberLaws
+pub mod MemberLaws
 mod DefinitionLaws
 mod FuncLaws
+pub mod PlacesLaws

@@ -1,6 +1,7 @@
 -- What fields and cases stand for.
 use Rattle.std.proofs.Common.{◌≡◌, ℕ, ◌<◌, ◌≤◌, ◌+◌, Bool, false, List, [], ◌∷◌, ◌++◌, length, map, get_or, Option, Some, None, IfSome, refl, sym, ap, subst, ◌∙◌, arith, Ok, Err, Vec, Global}
 use Rattle.std.specs.Option.{option_map}
+use Rattle.std.proofs.lemmas.Bool.{and_right, and_left}
 use Rattle.cm_types.specs.Types.{Ty}
 use Rattle.cm_types.specs.TypeTrees.{TypedLabel, CaseOf, fields_from, cases_from}
 use Rattle.cm_types.specs.Limits.{IsWithin, IsWithinLimits, nodes_of_fields, depth_of_fields, nodes_of_cases, depth_of_cases}
@@ -25,9 +26,11 @@ use Rattle.cm_wit_meanings.specs.Meanings.{meaning, each_meaning, typed_meaning,
 use Rattle.cm_wit_meanings.specs.Faults.{IsFaultOf, IsTypeFault}
 use Rattle.cm_wit_meanings.specs.Added.{AddedType}
 use Rattle.cm_wit_meanings.specs.WitDefinitionsAdded.{AddedCase, AddedCases, AddedField, AddedFields, is_case_there, is_field_there}
-use Rattle.cm_wit_meanings.proofs.WitDefinitionsFaultLaws.{both_false, first_false, mapped_fault}
-use Rattle.cm_wit_meanings.proofs.WitDefinitionsGrowthLaws.{place_kept, below_more, extends_more, extends_same}
+use Rattle.cm_wit_meanings.proofs.WitDefinitionsFaultLaws.{mapped_fault}
 use Rattle.cm_wit_meanings.proofs.WitDefinitionsPushLaws.{Pushed, pushed_none, pushed_all, pushed_placed, pushed_more, pushed_fault}
+use Rattle.cm_lemmas.proofs.Numbers.{below_more}
+use Rattle.cm_wit_meanings.proofs.GrowthLaws.{extends_more, extends_same, place_kept}
+use Rattle.cm_types_arena.proofs.PlaceLaws.{option_more}
 
 -- ---- one of them
 
@@ -86,7 +89,7 @@ case_refused s c f h = mapped_fault (λ (u : Option Ty). (c.name, u)) IsCaseWith
 
 -- ---- several
 
-each_view : {A B C : Type 0} (meant : B → Option C) (view : A → B) (xs : List A) → each_meaning (λ x. meant (view x)) xs ≡ each_meaning meant (map view xs)
+pub each_view : {A B C : Type 0} (meant : B → Option C) (view : A → B) (xs : List A) → each_meaning (λ x. meant (view x)) xs ≡ each_meaning meant (map view xs)
 each_view meant view [] = refl
 each_view meant view (x ∷ xs) = rw (each_view meant view xs) refl
 
@@ -102,10 +105,6 @@ field_kept old new d e h = ap (λ (t : Ty). (d.label, t)) (place_kept old new d.
 option_kept : (old new : List Ty) (p : Option ℕ) → Extends old new → IsBelow (length old) p → option_map (type_at new) p ≡ option_map (type_at old) p
 option_kept old new None e h = refl
 option_kept old new (Some p) e h = ap Some (place_kept old new p e h)
-
-option_more : (m n : ℕ) (p : Option ℕ) → m ≤ n → IsBelow m p → IsBelow n p
-option_more m n None le h = tt
-option_more m n (Some p) le h = below_more m n p le h
 
 case_kept : (old new : List Ty) (d : CaseDef) → Extends old new → is_case_there (length old) d → case_def_type new d ≡ case_def_type old d
 case_kept old new d e h = ap (λ (t : Option Ty). (d.label, t)) (option_kept old new d.payload e h)
@@ -123,8 +122,8 @@ field_within front t rest w =
     (omega (arith, p.0), omega (arith, p.1))
 
 fields_spelled : (front : List TypedLabel) (t : TypedLabel) (rest : List TypedLabel) → is_field_spelled t ≡ false → are_spellable (fields_from (front ++ t ∷ rest)) ≡ false
-fields_spelled [] t rest h = first_false (is_spellable t.1) (are_spellable (fields_from rest)) h
-fields_spelled (x ∷ xs) t rest h = both_false (is_spellable x.1) (are_spellable (fields_from (xs ++ t ∷ rest))) (fields_spelled xs t rest h)
+fields_spelled [] t rest h = and_left (is_spellable t.1) (are_spellable (fields_from rest)) h
+fields_spelled (x ∷ xs) t rest h = and_right (is_spellable x.1) (are_spellable (fields_from (xs ++ t ∷ rest))) (fields_spelled xs t rest h)
 
 payload_first : (most depth : ℕ) (l : List ℕ) (p : Option Ty) (rest : List CaseOf) → nodes_of_cases (cases_from ((l, p) ∷ rest)) ≤ most → depth_of_cases (cases_from ((l, p) ∷ rest)) ≤ depth → IfSome p (IsWithin most depth)
 payload_first most depth l None rest n d = tt
@@ -151,18 +150,18 @@ case_within front c rest w =
 
 payload_spelled : (l : List ℕ) (p : Option Ty) (rest : List CaseOf) → is_spellable_payload p ≡ false → are_spellable_payloads (cases_from ((l, p) ∷ rest)) ≡ false
 payload_spelled l None rest h = absurd cc
-payload_spelled l (Some t) rest h = first_false (is_spellable t) (are_spellable_payloads (cases_from rest)) h
+payload_spelled l (Some t) rest h = and_left (is_spellable t) (are_spellable_payloads (cases_from rest)) h
 
 others_spelled : (l : List ℕ) (p : Option Ty) (rest : List CaseOf) → are_spellable_payloads (cases_from rest) ≡ false → are_spellable_payloads (cases_from ((l, p) ∷ rest)) ≡ false
 others_spelled l None rest h = h
-others_spelled l (Some t) rest h = both_false (is_spellable t) (are_spellable_payloads (cases_from rest)) h
+others_spelled l (Some t) rest h = and_right (is_spellable t) (are_spellable_payloads (cases_from rest)) h
 
 cases_spelled : (front : List CaseOf) (c : CaseOf) (rest : List CaseOf) → is_case_spelled c ≡ false → are_spellable_payloads (cases_from (front ++ c ∷ rest)) ≡ false
 cases_spelled [] c rest h = payload_spelled c.0 c.1 rest h
 cases_spelled (x ∷ xs) c rest h = others_spelled x.0 x.1 (xs ++ c ∷ rest) (cases_spelled xs c rest h)
 
 pub case_spelled : (front : List CaseOf) (c : CaseOf) (rest : List CaseOf) → is_case_spelled c ≡ false → is_spellable (variant_of (front ++ c ∷ rest)) ≡ false
-case_spelled front c rest h = both_false _ (are_spellable_payloads (cases_from (front ++ c ∷ rest))) (cases_spelled front c rest h)
+case_spelled front c rest h = and_right _ (are_spellable_payloads (cases_from (front ++ c ∷ rest))) (cases_spelled front c rest h)
 
 -- ---- adding fields
 

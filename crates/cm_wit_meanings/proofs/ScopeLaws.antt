@@ -7,8 +7,9 @@ use Rattle.cm_wit_meanings.specs.declared.scope.Meaning.TheVariants as meant
 use Rattle.cm_wit_meanings.specs.declared.scope.Scope as code_scope
 use Rattle.cm_wit_meanings.specs.Scopes.{Meaning, value, scope_at}
 use Rattle.cm_names.specs.Listed.{listed}
-use Rattle.cm_wit_meanings.proofs.GrowthLaws.{extends_length, place_kept, below_more}
+use Rattle.cm_wit_meanings.proofs.GrowthLaws.{extends_length, place_kept}
 use Rattle.cm_wit_meanings.specs.Places.{meaning_in, table_in, scope_in, IsPlaced, ArePlaced, Extends}
+use Rattle.cm_lemmas.proofs.Numbers.{below_more}
 
 -- ---- what a table has
 
@@ -26,7 +27,7 @@ pub ruleset find_laws = (table_get, placed_get)
 
 -- ---- the same among more types
 
-meaning_more : (count more : ℕ) (m : code.Meaning) → count ≤ more → IsPlaced count m → IsPlaced more m
+pub meaning_more : (count more : ℕ) (m : code.Meaning) → count ≤ more → IsPlaced count m → IsPlaced more m
 meaning_more count more (meant.Value p) le h = below_more count more p le h
 meaning_more count more (meant.Resource r) le h = tt
 
@@ -35,11 +36,11 @@ placed_more count more [] le h = tt
 placed_more count more (None ∷ ms) le h = (tt, placed_more count more ms le h.1)
 placed_more count more (Some m ∷ ms) le h = (meaning_more count more m le h.0, placed_more count more ms le h.1)
 
-meaning_kept : (old new : List Ty) (m : code.Meaning) → Extends old new → IsPlaced (length old) m → meaning_in new m ≡ meaning_in old m
+pub meaning_kept : (old new : List Ty) (m : code.Meaning) → Extends old new → IsPlaced (length old) m → meaning_in new m ≡ meaning_in old m
 meaning_kept old new (meant.Value p) e h = ap value (place_kept old new p e h)
 meaning_kept old new (meant.Resource r) e h = refl
 
-table_kept : (old new : List Ty) (table : List (Option code.Meaning)) → Extends old new → ArePlaced (length old) table → table_in new table ≡ table_in old table
+pub table_kept : (old new : List Ty) (table : List (Option code.Meaning)) → Extends old new → ArePlaced (length old) table → table_in new table ≡ table_in old table
 table_kept old new [] e h = refl
 table_kept old new (None ∷ ms) e h = rw (table_kept old new ms e h.1) refl
 table_kept old new (Some m ∷ ms) e h = rw (meaning_kept old new m e h.0, table_kept old new ms e h.1) refl

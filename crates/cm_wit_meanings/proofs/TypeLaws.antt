@@ -20,11 +20,12 @@ use Rattle.cm_wit_meanings.specs.Added.{AddedParts, AddedType, is_place}
 use Rattle.cm_wit_meanings.specs.Meanings.{meaning, meanings, option_of, payload_meaning, result_of, tuple_of}
 use Rattle.cm_wit_meanings.specs.Faults.{IsTypeFault, IsFaultIn}
 use Rattle.cm_wit_meanings.specs.Places.{scope_in, ArePlaced}
-use Rattle.cm_wit_meanings.proofs.GrowthLaws.{place_kept, below_more, extends_more}
+use Rattle.cm_wit_meanings.proofs.GrowthLaws.{place_kept, extends_more}
 use Rattle.cm_wit_meanings.proofs.ScopeLaws.{scope_kept, scope_placed}
 use Rattle.cm_wit_meanings.proofs.EachLaws.{makes_fault, part_within, part_spelled, types_each}
 use Rattle.cm_wit_meanings.proofs.PushLaws.{Pushed, pushed_none, pushed_next, pushed_all}
 use Rattle.cm_wit_meanings.proofs.FaultLaws.{both_of}
+use Rattle.cm_lemmas.proofs.Numbers.{below_more}
 
 -- ---- the types of several texts
 

@@ -16,7 +16,8 @@ use Rattle.cm_wit_meanings.specs.Places.{Extends, IsPlaced, meaning_in}
 use Rattle.cm_wit_meanings.specs.Scopes.{as_type, value}
 use Rattle.cm_wit_meanings.specs.WitDefinitionsAdded.{AddedDef, named_place}
 use Rattle.cm_wit_meanings.proofs.WitDefinitionsFaultLaws.{mapped_fault}
-use Rattle.cm_wit_meanings.proofs.WitDefinitionsGrowthLaws.{arena_within, extends_more, extends_same}
+use Rattle.cm_wit_meanings.proofs.WitDefinitionsGrowthLaws.{arena_within}
+use Rattle.cm_wit_meanings.proofs.GrowthLaws.{extends_more, extends_same}
 
 -- what is there already
 pub stands : {A D : Type 0} (view : List Ty → D → A) (IsThere : ℕ → D → Type 0) (IsFault : Option A → MeaningFault → Type 0) (types : Types) (meant : Option A) (d : D) → IsThere (length (types_of types)) d → meant ≡ Some (view (types_of types) d) → Added view IsThere IsFault types types meant (Ok d)

@@ -1,30 +1,16 @@
 -- What several things stand for, one after another.
-use Rattle.std.proofs.Common.{◌≡◌, ℕ, suc, ◌<◌, ◌≤◌, ◌+◌, Bool, false, List, [], ◌∷◌, ◌++◌, length, drop, get_or, Option, Some, None, refl, sym, ap, ◌∙◌, append-nil, append_assoc, drop-cons, add-one, subst}
+use Rattle.std.proofs.Common.{◌≡◌, ℕ, ◌<◌, ◌≤◌, ◌+◌, Bool, false, List, [], ◌∷◌, ◌++◌, length, drop, get_or, Option, Some, None, refl, sym, ap, ◌∙◌, append-nil, subst}
 use Rattle.std.specs.Option.{option_map, option_and_then}
 use Rattle.std.proofs.lemmas.List.{drop_all}
 use Rattle.cm_wit_meanings.specs.declared.fault.MeaningFault.{MeaningFault}
 use Rattle.cm_wit_meanings.specs.declared.fault.MeaningFault.TheVariants as fault
 use Rattle.cm_wit_meanings.specs.Meanings.{each_meaning}
 use Rattle.cm_wit_meanings.specs.Faults.{IsFaultOf}
-
--- these behind those
-abbrev pub behind : {B : Type 0} → List B → Option (List B) → Option (List B)
-behind front o = option_map (λ ys. front ++ ys) o
-
-behind_none : {B : Type 0} (o : Option (List B)) → behind [] o ≡ o
-behind_none None = refl
-behind_none (Some ys) = refl
-
-behind_one : {B : Type 0} (front : List B) (y : B) (o : Option (List B)) → behind (front ++ y ∷ []) o ≡ behind front (option_map (λ ys. y ∷ ys) o)
-behind_one front y None = refl
-behind_one front y (Some ys) = ap Some (append_assoc front (y ∷ []) ys)
+use Rattle.cm_lemmas.proofs.Lists.{behind, behind_none, behind_one, rest_from}
 
 -- What these stand for was found up to the i-th, and with the rest makes all.
 pub record Makes {A B : Type 0} (meant : A → Option B) (all : List A) (i : ℕ) (now : List B) : Type 0 where
   pub is : behind now (each_meaning meant (drop i all)) ≡ each_meaning meant all
-
-rest_from : {A : Type 0} (all : List A) (i : ℕ) (x : A) → i < length all → x ≡ get_or all i x → drop i all ≡ x ∷ drop (i + 1) all
-rest_from all i x lt e = drop-cons all i x lt ∙ (ap (λ (a : _). a ∷ drop (suc i) all) (sym e) ∙ rw (add-one i) refl)
 
 -- what one stands for, in front of what the others do
 abbrev pub in_front : {B : Type 0} → Option B → Option (List B) → Option (List B)

@@ -1,5 +1,5 @@
 -- Faults of parts are faults of the whole.
-use Rattle.std.proofs.Common.{◌≡◌, Bool, true, false, ◌&&◌, Option, Some, None, refl, ap}
+use Rattle.std.proofs.Common.{Bool, Option, Some, None, refl}
 use Rattle.std.specs.Option.{option_map}
 use Rattle.cm_types.specs.Types.{Ty}
 use Rattle.cm_types.specs.Limits.{IsWithinLimits}
@@ -7,13 +7,6 @@ use Rattle.cm_types.specs.Spellable.{is_spellable}
 use Rattle.cm_wit_meanings.specs.declared.fault.MeaningFault.{MeaningFault}
 use Rattle.cm_wit_meanings.specs.declared.fault.MeaningFault.TheVariants as fault
 use Rattle.cm_wit_meanings.specs.Faults.{IsFaultOf, IsTypeFault, IsFaultIn}
-
-pub both_false : (a b : Bool) → b ≡ false → (a && b) ≡ false
-both_false true b h = h
-both_false false b h = refl
-
-pub first_false : (a b : Bool) → a ≡ false → (a && b) ≡ false
-first_false a b h = ap (λ (x : Bool). x && b) h
 
 -- a fault of what a thing is made of
 pub mapped_fault : {A B : Type 0} (g : A → B) (IsWithin : B → Type 0) (spelled : B → Bool) (o : Option A) (f : MeaningFault) → IsFaultOf (λ x. IsWithin (g x)) (λ x. spelled (g x)) o f → IsFaultOf IsWithin spelled (option_map g o) f

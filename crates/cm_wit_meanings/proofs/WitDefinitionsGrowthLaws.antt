@@ -1,6 +1,6 @@
 -- Types that are added behind others.
-use Rattle.std.proofs.Common.{◌≡◌, ℕ, zero, suc, ◌<◌, ◌≤◌, List, [], ◌∷◌, ◌++◌, length, get_or, refl, sym, ap, ◌∙◌, arith, length-append, append-nil, append_assoc, subst}
-use Rattle.std.proofs.lemmas.List.{get_or_append_left, get_or_push}
+use Rattle.std.proofs.Common.{◌≡◌, ℕ, ◌<◌, List, [], ◌∷◌, ◌++◌, length, refl, sym, ap, ◌∙◌, arith, length-append, subst}
+use Rattle.std.proofs.lemmas.List.{get_or_push}
 use Rattle.cm_types.specs.Types.{Ty, bool}
 use Rattle.cm_types_arena.specs.TypeDefs.{type_at}
 use Rattle.std.proofs.lemmas.List.{length-map}
@@ -11,9 +11,8 @@ use Rattle.cm_types.specs.TypeTrees.{type_of}
 use Rattle.cm_types_arena.specs.Arena.{IsArena, types_in}
 use Rattle.cm_types_arena.specs.declared.entries.TypeEntry as arena
 use Rattle.cm_wit_meanings.specs.Places.{Extends}
-
-pub extends_same : {A : Type 0} (old new : List A) → new ≡ old → Extends old new
-extends_same old new e = ([], e ∙ sym (append-nil old))
+use Rattle.cm_wit_meanings.proofs.GrowthLaws.{extends_same}
+use Rattle.cm_types_arena.proofs.ArenaLemmas.{type_there}
 
 pub extends_one : {A : Type 0} (old new : List A) (x : A) → new ≡ old ++ x ∷ [] → Extends old new
 extends_one old new x e = (x ∷ [], e)
@@ -24,26 +23,9 @@ type_last old new t p e q = rw (e, q) (get_or_push old t bool (length old) refl)
 pub there_last : (old new : List Ty) (t : Ty) (p : ℕ) → new ≡ old ++ t ∷ [] → p ≡ length old → p < length new
 there_last old new t p e q = let n = ap length e ∙ length-append old (t ∷ []) in omega (arith, n, q)
 
-pub extends_more : {A : Type 0} (old mid new : List A) → Extends old mid → Extends mid new → Extends old new
-extends_more old mid new e f = (e.0 ++ f.0, f.1 ∙ (ap (λ (xs : List _). xs ++ f.0) e.1 ∙ append_assoc old e.0 f.0))
-
 -- ---- places that are there stay what they are
 
-pub extends_length : {A : Type 0} (old new : List A) → Extends old new → length old ≤ length new
-extends_length old new e = let n = ap length e.1 ∙ length-append old e.0 in omega (arith, n)
-
-pub place_kept : (old new : List Ty) (p : ℕ) → Extends old new → p < length old → type_at new p ≡ type_at old p
-place_kept old new p e lt = ap (λ (ts : List Ty). type_at ts p) e.1 ∙ get_or_append_left old e.0 bool p lt
-
-pub below_more : (m n p : ℕ) → m ≤ n → p < m → p < n
-below_more m n p le lt = omega arith
-
 -- ---- the types of an arena are within the limits
-
-type_there : (es : List arena.TypeEntry) (k : ℕ) (d : arena.TypeEntry) → k < length es → type_at (types_in es) k ≡ type_of (get_or es k d).node
-type_there [] k d h = absurd (omega arith)
-type_there (x ∷ es) zero d h = refl
-type_there (x ∷ es) (suc k) d h = type_there es k d (omega arith)
 
 within_there : (es : List arena.TypeEntry) (k : ℕ) (d : arena.TypeEntry) → k < length es → IsArena es → IsWithinLimits (type_at (types_in es) k)
 within_there es k d lt a = subst IsWithinLimits (sym (type_there es k d lt)) (a.entries k d lt).within_limits

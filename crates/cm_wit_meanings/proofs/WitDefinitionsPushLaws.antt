@@ -11,9 +11,9 @@ use Rattle.cm_wit_meanings.specs.declared.scope.Scope as code_scope
 use Rattle.cm_wit_meanings.specs.Scopes.{Scope}
 use Rattle.cm_wit_meanings.specs.Places.{Extends, ArePlaced, scope_in}
 use Rattle.cm_wit_meanings.specs.Faults.{IsFaultOf}
-use Rattle.cm_wit_meanings.proofs.WitDefinitionsScopeLaws.{scope_kept, scope_placed}
-use Rattle.cm_wit_meanings.proofs.WitDefinitionsGrowthLaws.{extends_same, extends_more, extends_length}
 use Rattle.cm_wit_meanings.proofs.WitDefinitionsEachLaws.{Makes, makes_none, makes_next, makes_all, makes_fault}
+use Rattle.cm_wit_meanings.proofs.GrowthLaws.{extends_length, extends_more, extends_same}
+use Rattle.cm_wit_meanings.proofs.ScopeLaws.{scope_kept, scope_placed}
 
 -- What the first i of these stand for was added to the types and made into this list.
 pub record Pushed {A B D : Type 0} (meant : A → Option B) (view : List Ty → D → B) (IsThere : ℕ → D → Type 0) (texts : List A) (first : Types) (i : ℕ) (now : Types) (made : List D) : Type 0 where

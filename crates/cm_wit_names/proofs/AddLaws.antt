@@ -1,5 +1,5 @@
 -- Mentions that are added one part behind the other.
-use Rattle.std.proofs.Common.{◌≡◌, ℕ, ◌+◌, ◌<◌, ◌≤◌, List, [], ◌∷◌, ◌++◌, suc, length, map, drop, get_or, refl, sym, ap, ◌∙◌, append_assoc, append-nil, drop-cons, add-one}
+use Rattle.std.proofs.Common.{◌≡◌, ℕ, ◌+◌, ◌<◌, ◌≤◌, List, [], ◌∷◌, ◌++◌, length, map, drop, get_or, refl, sym, ap, ◌∙◌, append_assoc, append-nil}
 use Rattle.std.proofs.lemmas.List.{length-append, length-map, drop_all}
 use Rattle.std.specs.Global.{Vec}
 use Rattle.cm_wit_reading.specs.Types.{Ty, types_from}
@@ -9,6 +9,7 @@ use Rattle.cm_wit_names.specs.Mentions.{Mention}
 use Rattle.cm_wit_names.specs.Marks.{Marks, none, ◌then◌, each}
 use Rattle.cm_wit_names.specs.MentionViews.{mention_view, Adds}
 use Rattle.cm_wit_names.specs.FileMentions.{type_marks, types_marks}
+use Rattle.cm_lemmas.proofs.Lists.{next_element}
 
 pub adds_none : (x : Vec code.Mention) → Adds none x x
 adds_none x = sym (append-nil (map mention_view x.items))
@@ -30,9 +31,6 @@ adds_then a b x y z p q = q ∙ makes_all_after a b x y (map mention_view x.item
 pub ruleset add_laws = (adds_none, adds_then)
 
 -- ---- lists that are read by index
-
-pub next_element : {A B : Type 0} (view : A → B) (xs : List A) (i : ℕ) (x : A) → i < length xs → x ≡ get_or xs i x → map view (drop i xs) ≡ view x ∷ map view (drop (i + 1) xs)
-next_element {A} view xs i x lt is = ap (map view) (drop-cons xs i x lt ∙ ap (λ (a : A). a ∷ drop (suc i) xs) (sym is)) ∙ rw (add-one i) refl
 
 pub each_step : {A B : Type 0} (part : B → Marks) (view : A → B) (xs : List A) (i : ℕ) (x : A) (before after : Vec code.Mention) (all : List Mention) → i < length xs → x ≡ get_or xs i x → Adds (part (view x)) before after → MakesAll (each part (map view (drop i xs))) before all → MakesAll (each part (map view (drop (i + 1) xs))) after all
 each_step part view xs i x before after all lt is p q =

@@ -10,14 +10,9 @@ use Rattle.cm_wit_names.specs.Mentions.{Mention}
 use Rattle.cm_wit_names.specs.MentionViews.{mention_view}
 use Rattle.cm_wit_names.specs.Known.{HasBorrow, IsAt, borrow_owner}
 use Rattle.cm_wit_names.proofs.LeastLaws.{at_view, is_here}
+use Rattle.cm_wit_graph.proofs.EdgeLaws.{set_marked as set_kept}
 
 -- ---- one mark
-
-pub set_kept : (marks : List Bool) (x a : ℕ) → x < length marks → IsMarked marks a → IsMarked (set marks x true) a
-set_kept marks x a lt m = elim (cases_eq a x) [
-  | inl e ↦ ap (λ (b : ℕ). get_or (set marks x true) b false) e ∙ get_or-set_same marks x true false lt
-  | inr n ↦ get_or-set_other marks x a true false n ∙ m
-]
 
 pub set_marked : (marks : List Bool) (x a : ℕ) → x < length marks → Some x ≡ Some a → IsMarked (set marks x true) a
 set_marked marks x a lt e = subst (λ (b : ℕ). IsMarked (set marks x true) b) (some_is e) (get_or-set_same marks x true false lt)

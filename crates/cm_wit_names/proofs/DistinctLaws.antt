@@ -1,5 +1,5 @@
 -- Names that are distinct.
-use Rattle.std.proofs.Common.{◌≡◌, ◌==◌, ◌&&◌, ◌||◌, ℕ, zero, suc, ◌+◌, ◌<◌, ◌≤◌, Bool, true, false, ◌⊎◌, inl, inr, List, [], ◌∷◌, ◌++◌, length, map, take, get_or, Option, Some, None, refl, sym, ap, subst, ◌∙◌, append-nil, arith}
+use Rattle.std.proofs.Common.{◌≡◌, ◌==◌, ◌&&◌, ◌||◌, ℕ, ◌+◌, ◌<◌, ◌≤◌, Bool, true, false, inl, inr, List, [], ◌∷◌, ◌++◌, length, map, take, get_or, Option, Some, None, refl, sym, ap, subst, ◌∙◌, append-nil, arith}
 use Rattle.std.specs.Global.{Vec}
 use Rattle.std.specs.List.{Contains, list_any, filter_map, cons_option}
 use Rattle.std.specs.Str.{bytes_eq}
@@ -15,14 +15,17 @@ use Rattle.std.specs.Cmp.Lexicographic.{slice_cmp}
 use Rattle.std.specs.Ordering.{is_eq, match_ordering, nat_cmp, ordering_then}
 use Rattle.std.specs.declared.cmp.Ordering.{Ordering}
 use Rattle.std.specs.declared.cmp.Ordering.TheVariants.{Less, Equal, Greater}
-use Rattle.std.proofs.lemmas.Grind.{common_steps}
 use Rattle.std.proofs.lemmas.List.Elements.{Contains-append_left, Contains-append_right, Contains-append_cases}
 use Rattle.std.proofs.lemmas.Map.Text.{is_eq-slice_cmp}
 use Rattle.cm_wit_names.specs.Distinct.{key_view, Adds, HaveSame, Notes}
 use Rattle.cm_wit_names.specs.Known.{IsAt}
 use Rattle.cm_wit_names.specs.Rules.{IsAmong, IsLeast, IsTaken, key_of, is_self}
-use Rattle.cm_wit_names.proofs.TableLaws.{both_true, same_of, eq_self, same_text, text_self}
+use Rattle.cm_wit_names.proofs.TableLaws.{text_self}
 use Rattle.cm_wit_names.proofs.LeastLaws.{NoneAt, none_at_first, none_at_next, least_here, least_none}
+use Rattle.cm_lemmas.proofs.Bools.{both_true, true_not_false}
+use Rattle.cm_lemmas.proofs.Lists.{cons_in, head_in, in_cons, same_text}
+use Rattle.cm_lemmas.proofs.Numbers.{eq_self, eq_of}
+use Rattle.cm_lemmas.proofs.Orders.{same_number}
 
 -- ---- keys
 
@@ -31,9 +34,6 @@ key_cmp k x = ordering_then (nat_cmp k.0 x.0) (slice_cmp nat_cmp k.1.items x.1.i
 
 abbrev pub same : ℕ × Vec ℕ → ℕ × Vec ℕ → Bool
 same k x = is_eq (key_cmp k x)
-
-same_number : (m n : ℕ) → is_eq (nat_cmp m n) ≡ (m == n)
-same_number m n = grind (arith, common_steps)
 
 same_key : (k x : ℕ × Vec ℕ) → same k x ≡ ((k.0 == x.0) && bytes_eq k.1.items x.1.items)
 same_key k x =
@@ -46,7 +46,7 @@ pair_is a b x y p q = rw (p, q) refl
 
 same_is : (k x : ℕ × Vec ℕ) → same k x ≡ true → key_view x ≡ key_view k
 same_is k x e = let p = both_true (k.0 == x.0) (bytes_eq k.1.items x.1.items) (sym (same_key k x) ∙ e) in
-    pair_is x.0 k.0 x.1.items k.1.items (sym (same_of k.0 x.0 p.0)) (sym (same_text k.1.items x.1.items p.1))
+    pair_is x.0 k.0 x.1.items k.1.items (sym (eq_of k.0 x.0 p.0)) (sym (same_text k.1.items x.1.items p.1))
 
 is_same : (k x : ℕ × Vec ℕ) → key_view x ≡ key_view k → same k x ≡ true
 is_same k x e =
@@ -54,25 +54,12 @@ is_same k x e =
     let q : x.1.items ≡ k.1.items = ap (λ (y : ℕ × List ℕ). y.1) e in
     same_key k x ∙ rw (p, q, eq_self k.0, text_self k.1.items) refl
 
-cons_in : {A : Type 0} (x y : A) (xs : List A) → Contains xs x → Contains (y ∷ xs) x
-cons_in x y xs c = (suc c.0, omega (arith, c.1), c.2)
-
-head_in : {A : Type 0} (x y : A) (xs : List A) → y ≡ x → Contains (y ∷ xs) x
-head_in x y xs e = (0, omega arith, e)
-
-in_cons : {A : Type 0} (x y : A) (xs : List A) → Contains (y ∷ xs) x → (y ≡ x) ⊎ Contains xs x
-in_cons x y xs (zero, lt, e) = inl e
-in_cons x y xs (suc k, lt, e) = inr (k, omega (arith, lt), e)
-
 or_true : (a b : Bool) → b ≡ true → (a || b) ≡ true
 or_true true b e = refl
 or_true false b e = e
 
 true_or : (a b : Bool) → a ≡ true → (a || b) ≡ true
 true_or a b e = rw e refl
-
-true_not_false : true ≡ false → ⊥
-true_not_false e = cc
 
 any_by : (k x : ℕ × Vec ℕ) (xs : List (ℕ × Vec ℕ)) (t : Bool) → same k x ≡ t → list_any (same k) (x ∷ xs) ≡ true → (list_any (same k) xs ≡ true → Contains (map key_view xs) (key_view k)) → Contains (map key_view (x ∷ xs)) (key_view k)
 any_by k x xs true q e rest = head_in (key_view k) (key_view x) (map key_view xs) (same_is k x q)

@@ -2,7 +2,7 @@
 use Rattle.std.proofs.Common.{◌≡◌, ℕ, ◌+◌, ◌<◌, ◌≤◌, List, [], ◌∷◌, ◌++◌, length, map, drop, get_or, Option, Some, None, refl, sym, ap, ◌∙◌, append_assoc, append-nil}
 use Rattle.std.specs.List.{filter_map, cons_option}
 use Rattle.std.proofs.lemmas.List.{drop_all}
-use Rattle.cm_wit_names.proofs.AddLaws.{next_element}
+use Rattle.cm_lemmas.proofs.Lists.{next_element}
 
 -- These were found, and the rest of the list makes all.
 pub record Finds {A B C : Type 0} (view : A → B) (h : B → Option C) (xs : List A) (i : ℕ) (found : List C) : Type 0 where

@@ -8,6 +8,7 @@ use Rattle.cm_wit_names.specs.Mentions.{Mention}
 use Rattle.cm_wit_names.specs.Known.{IsAt, edges}
 use Rattle.cm_wit_names.specs.Rules.{HasFault, IsFirstFault, IsLeast, IsTaken, IsUnknown, LeadsToBorrow, Precedes}
 use Rattle.cm_wit_names.specs.Firsts.{Firsts, IsFirst, IsLesser, NotBehind}
+use Rattle.cm_lemmas.proofs.Options.{none_number, some_number}
 
 -- ---- what stands before a place
 
@@ -15,19 +16,13 @@ use Rattle.cm_wit_names.specs.Firsts.{Firsts, IsFirst, IsLesser, NotBehind}
 abbrev pub NoneBelow : (ℕ → Type 0) → ℕ → Type 0
 NoneBelow P n = (k : ℕ) → k < n → P k → ⊥
 
-some_is : (a b : ℕ) → Some a ≡ Some b → a ≡ b
-some_is a b e = cc
-
-none_some : (a : ℕ) → None ≡ Some a → ⊥
-none_some a e = cc
-
 least_below : (P : ℕ → Type 0) (o : Option ℕ) (n : ℕ) → IsLeast P o → NotBehind n o → NoneBelow P n
 least_below P None n h le k lt p = h k p
 least_below P (Some q) n h le k lt p = h.1 k (omega (arith, lt, le)) p
 
 least_at : (P : ℕ → Type 0) (o : Option ℕ) (n : ℕ) → IsLeast P o → o ≡ Some n → P n
-least_at P None n h e = absurd (none_some n e)
-least_at P (Some q) n h e = subst P (some_is q n e) h.0
+least_at P None n h e = absurd (none_number n e)
+least_at P (Some q) n h e = subst P (some_number q n e) h.0
 
 other_behind : (o : Option ℕ) (n : ℕ) → NotBehind n o → (o ≡ Some n → ⊥) → NotBehind (n + 1) o
 other_behind None n le isnt = tt
@@ -126,8 +121,8 @@ no_fault ms b d u c = none
 -- ---- what was found of each reason
 
 some_one : (u c rest : Option ℕ) (p : ℕ) → IsLesser u c rest → rest ≡ Some p → (u ≡ Some p) ⊎ (c ≡ Some p)
-some_one u c None p h e = absurd (none_some p e)
-some_one u c (Some q) p h e = subst (λ (x : ℕ). (u ≡ Some x) ⊎ (c ≡ Some x)) (some_is q p e) h.2
+some_one u c None p h e = absurd (none_number p e)
+some_one u c (Some q) p h e = subst (λ (x : ℕ). (u ≡ Some x) ⊎ (c ≡ Some x)) (some_number q p e) h.2
 
 pub cycle_of : (ms : List Mention) (es : Edges) (c : Option ℕ) → es ≡ edges ms → IsFirstOnCycle es c → IsLeast (λ n. ReachesItself (edges ms) n) c
 cycle_of ms es None e h = λ n r. h n (subst (λ (x : Edges). ReachesItself x n) (sym e) r)

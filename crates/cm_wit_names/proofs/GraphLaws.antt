@@ -1,31 +1,18 @@
 -- The edges of a file lead from mentions to mentions.
-use Rattle.std.proofs.Common.{◌≡◌, ◌↔◌, ℕ, zero, suc, ◌+◌, ◌<◌, Bool, true, false, nat_lt, cond, if◌then◌else◌, List, [], ◌∷◌, length, map, Option, Some, None, refl, sym, ap, subst, ◌∙◌, arith, All}
-use Rattle.std.specs.List.{filter_map, cons_option, position_from}
+use Rattle.std.proofs.Common.{◌≡◌, ◌↔◌, ℕ, zero, suc, ◌<◌, Bool, true, false, nat_lt, if◌then◌else◌, List, [], ◌∷◌, length, map, Option, Some, None, refl, sym, subst, ◌∙◌, arith, All}
+use Rattle.std.specs.List.{filter_map, cons_option}
 use Rattle.std.specs.Option.{option_and_then}
-use Rattle.std.proofs.lemmas.Bool.Decides.{nat_tests}
 use Rattle.std.proofs.lemmas.List.{length-map}
 use Rattle.cm_wit_graph.specs.Graphs.{Edges, HasEdge, IsWithin, Walk, IsMarked, LeadsToMarked}
 use Rattle.cm_wit_names.specs.Mentions.{Mention, Reference, no_reference, to_interface, to_used, to_type, to_resource}
 use Rattle.cm_wit_names.specs.Known.{is_known_as, known_at, target, edge, edges, using_edges, leading_edge, using_edge, is_borrow, is_used, HasBorrow, HoldsBorrow}
 use Rattle.cm_wit_names.specs.Rules.{LeadsOn}
-
-some_is : (a b : ℕ) → Some a ≡ Some b → a ≡ b
-some_is a b e = cc
-
-found_by : {A : Type 0} (test : A → Bool) (i : ℕ) (x : A) (xs : List A) (k : ℕ) (t : Bool) → test x ≡ t → position_from test i (x ∷ xs) ≡ Some k → (position_from test (i + 1) xs ≡ Some k → k < i + 1 + length xs) → k < i + suc (length xs)
-found_by test i x xs k true q e rest =
-    let same : i ≡ k = some_is i k (sym (ap (λ (c : Bool). cond c (Some i) (position_from test (i + 1) xs)) q) ∙ e) in
-    omega (arith, same)
-found_by test i x xs k false q e rest =
-    let less : k < i + 1 + length xs = rest (sym (ap (λ (c : Bool). cond c (Some i) (position_from test (i + 1) xs)) q) ∙ e) in
-    omega (arith, less)
-
-found_within : {A : Type 0} (test : A → Bool) (i : ℕ) (xs : List A) (k : ℕ) → position_from test i xs ≡ Some k → k < i + length xs
-found_within test i [] k e = absurd cc
-found_within test i (x ∷ xs) k e = found_by test i x xs k (test x) refl e (found_within test (i + 1) xs k)
+use Rattle.cm_lemmas.proofs.Lists.{all_cons, position_below}
+use Rattle.cm_lemmas.proofs.Numbers.{less_of}
+use Rattle.cm_lemmas.proofs.Options.{some_number}
 
 pub known_within : (ms : List Mention) (n : ℕ) (text : List ℕ) (k : ℕ) → known_at ms n text ≡ Some k → k < length ms
-known_within ms n text k e = omega (arith, found_within (is_known_as n text) 0 ms k e)
+known_within ms n text k e = omega (arith, position_below (is_known_as n text) 0 ms k e)
 
 used_within : (ms : List Mention) (text : List ℕ) (o : Option ℕ) (k : ℕ) → option_and_then (λ n. known_at ms n text) o ≡ Some k → k < length ms
 used_within ms text None k e = absurd cc
@@ -50,15 +37,12 @@ if_some true a b e q = (refl, pair_of q)
     pair_of q = cc
 if_some false a b e q = absurd cc
 
-lt_of : (a n : ℕ) → nat_lt a n ≡ true → a < n
-lt_of a n e = grind (arith, nat_tests)
-
 edge_inside : (n : ℕ) (o b : Option ℕ) (e : ℕ × ℕ) → ((k : ℕ) → b ≡ Some k → k < n) → edge n o b ≡ Some e → Inside n e
 edge_inside n None b e h q = absurd cc
 edge_inside n (Some a) None e h q = absurd cc
 edge_inside n (Some a) (Some b) e h q =
     let p = if_some (nat_lt a n) a b e q in
-    subst (Inside n) p.1 (lt_of a n p.0, h b refl)
+    subst (Inside n) p.1 (less_of a n p.0, h b refl)
 
 if_none : (t : Bool) (o : Option (ℕ × ℕ)) (e : ℕ × ℕ) → (if t then None else o) ≡ Some e → o ≡ Some e
 if_none true o e q = absurd cc
@@ -73,10 +57,6 @@ leading_inside ms m e q = edge_inside (length ms) m.owner (target ms m.refers) e
 
 using_inside : (ms : List Mention) (m : Mention) (e : ℕ × ℕ) → using_edge ms m ≡ Some e → Inside (length ms) e
 using_inside ms m e q = edge_inside (length ms) m.owner (target ms m.refers) e (target_within ms m.refers) (if_only (is_used m.refers) (edge (length ms) m.owner (target ms m.refers)) e q)
-
-all_cons : {A : Type 0} (P : A → Type 0) (x : A) (xs : List A) → P x → All P xs → All P (x ∷ xs)
-all_cons P x xs p ps zero d lt = p
-all_cons P x xs p ps (suc k) d lt = ps k d (omega (arith, lt))
 
 all_option : {A : Type 0} (P : A → Type 0) (o : Option A) (xs : List A) → ((x : A) → o ≡ Some x → P x) → All P xs → All P (cons_option o xs)
 all_option P None xs h ps = ps
@@ -124,7 +104,7 @@ pub leads_some : {A : Type 0} (view : A → Mention) (xs : List A) (r : Referenc
 leads_some view xs r marks k b e h marked =
     let within : k < length xs = omega (arith, target_within (map view xs) r k (sym e), length-map xs view) in (
       λ t. (k, sym e, (h k within).0 (marked.0 t)),
-      λ l. marked.1 ((h k within).1 (subst (HoldsBorrow (map view xs)) (some_is l.0 k (sym l.1 ∙ sym e)) l.2)),
+      λ l. marked.1 ((h k within).1 (subst (HoldsBorrow (map view xs)) (some_number l.0 k (sym l.1 ∙ sym e)) l.2)),
     )
 
 pub leads_nowhere : (ms : List Mention) (r : Reference) → None ≡ target ms r → (false ≡ true) ↔ LeadsOn ms r

@@ -9,15 +9,13 @@ use Rattle.cm_wit_names.specs.Mentions.{Mention}
 use Rattle.cm_wit_names.specs.MentionViews.{mention_view}
 use Rattle.cm_wit_names.specs.Known.{IsAt}
 use Rattle.cm_wit_names.specs.Rules.{IsLeast}
+use Rattle.cm_lemmas.proofs.Options.{some_is}
 
 pub at_view : (mentions : List code.Mention) (i : ℕ) (m : code.Mention) → i < length mentions → m ≡ get_or mentions i m → slice_get (map mention_view mentions) i ≡ Some (mention_view m)
 at_view mentions i m lt e = slice_get-map mention_view mentions i ∙ ap (option_map mention_view) (slice_get_read mentions (length mentions) i m refl lt e)
 
-some_same : {A : Type 0} (x y : A) → Some x ≡ Some y → x ≡ y
-some_same x y e = cc
-
 pub is_here : (P : Mention → Type 0) (mentions : List code.Mention) (i : ℕ) (m : code.Mention) → i < length mentions → m ≡ get_or mentions i m → IsAt (map mention_view mentions) i P → P (mention_view m)
-is_here P mentions i m lt e here = subst P (some_same here.0 (mention_view m) (sym here.1 ∙ at_view mentions i m lt e)) here.2
+is_here P mentions i m lt e here = subst P (some_is here.0 (mention_view m) (sym here.1 ∙ at_view mentions i m lt e)) here.2
 
 -- it holds of none of the first mentions
 pub record NoneAt (P : ℕ → Mention → Type 0) (mentions : List code.Mention) (i : ℕ) : Type 0 where

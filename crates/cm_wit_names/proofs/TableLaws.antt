@@ -1,16 +1,14 @@
 -- The table of what is known, made mention by mention.
-use Rattle.std.proofs.Common.{◌≡◌, ◌==◌, ◌&&◌, ℕ, ◌+◌, ◌<◌, ◌≤◌, Bool, true, false, cond, if◌then◌else◌, List, [], ◌∷◌, length, map, drop, get_or, Option, Some, None, refl, sym, ap, ◌∙◌, arith}
+use Rattle.std.proofs.Common.{◌≡◌, ◌==◌, ◌&&◌, ℕ, ◌+◌, ◌<◌, ◌≤◌, Bool, true, false, cond, List, [], ◌∷◌, length, map, drop, get_or, Option, Some, None, refl, sym, ap, ◌∙◌}
 use Rattle.std.specs.Borrow.{Bor}
 use Rattle.std.specs.List.{position_from}
 use Rattle.std.specs.Option.{option_map, option_map_or}
 use Rattle.std.proofs.lemmas.List.{drop_all}
-use Rattle.std.proofs.lemmas.Bool.Decides.{nat_tests}
 use Rattle.std.proofs.lemmas.Slice.Eq.{bytes_eq-Decides}
 use Rattle.std.specs.Str.{bytes_eq}
 use Rattle.cm_wit_names.specs.declared.mention.Mention as code
 use Rattle.cm_wit_names.specs.Mentions.{Mention}
 use Rattle.cm_wit_names.specs.MentionViews.{mention_view}
-use Rattle.cm_wit_names.proofs.AddLaws.{next_element}
 use Rattle.cm_wit_names.specs.Known.{is_known_as, known_at}
 use Rattle.std.specs.BTreeMap.{is_at}
 use Rattle.std.specs.Map.{lookup}
@@ -18,6 +16,8 @@ use Rattle.std.specs.Option.{option_and_then}
 use Rattle.std.specs.Ordering.{nat_cmp}
 use Rattle.cm_names.specs.KeyTables.{KeyTable, look_up, or_else, under}
 use Rattle.cm_wit_names.specs.Table.{IsTableOf, is_key, Notes}
+use Rattle.cm_names.proofs.KeyLaws.{later, or_none}
+use Rattle.cm_lemmas.proofs.Lists.{next_element}
 
 -- What is known is what the table has, or else the first among the mentions to come.
 abbrev pub SeeksIn : List Mention → ℕ → List Mention → KeyTable → Type 0
@@ -31,31 +31,9 @@ seeks_none mentions table e = record {
   is = λ n text. ap (λ es. or_else (option_and_then (under text) (lookup (is_at (nat_cmp n)) es)) (position_from (is_known_as n text) 0 (map mention_view mentions))) (sym e);
 }
 
-or_none : (a : Option ℕ) → or_else a None ≡ a
-or_none None = refl
-or_none (Some x) = refl
-
-later : (a : Option ℕ) (t : Bool) (i : ℕ) (rest : Option ℕ) → or_else a (cond t (Some i) rest) ≡ or_else (or_else a (if t then Some i else None)) rest
-later None true i rest = refl
-later None false i rest = refl
-later (Some x) t i rest = refl
-
 key_in : (n : ℕ) (text : List ℕ) (known : Option (ℕ × Bor (List ℕ))) → option_map_or (λ (k : ℕ × List ℕ). (n == k.0) && bytes_eq text k.1) (option_map (λ k. (k.0, k.1.now)) known) false ≡ is_key n text (option_map (λ k. (k.0, k.1.now)) known)
 key_in n text None = refl
 key_in n text (Some k) = refl
-
-pub both_true : (a b : Bool) → (a && b) ≡ true → (a ≡ true) × (b ≡ true)
-both_true true b e = (refl, e)
-both_true false b e = absurd cc
-
-pub same_of : (x y : ℕ) → (x == y) ≡ true → x ≡ y
-same_of x y e = grind (arith, nat_tests)
-
-pub eq_self : (x : ℕ) → (x == x) ≡ true
-eq_self x = grind (arith, nat_tests)
-
-pub same_text : (x y : List ℕ) → bytes_eq x y ≡ true → x ≡ y
-same_text x y e = (bytes_eq-Decides x y).0 e
 
 pub text_self : (x : List ℕ) → bytes_eq x x ≡ true
 text_self x = (bytes_eq-Decides x x).1 refl

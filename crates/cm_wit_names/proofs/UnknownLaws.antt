@@ -8,9 +8,7 @@ use Rattle.cm_wit_names.specs.MentionViews.{mention_view, reference_view}
 use Rattle.cm_wit_names.specs.Known.{IsAt, IsResource, known_at}
 use Rattle.cm_wit_names.specs.Rules.{IsLeast, IsUnknown, LeadsToBorrow}
 use Rattle.cm_wit_names.proofs.LeastLaws.{NoneAt, none_at_first, none_at_next, least_here, least_none}
-
-false_not : (b : Bool) → b ≡ false → b ≡ true → ⊥
-false_not b p q = cc
+use Rattle.cm_lemmas.proofs.Bools.{true_is_not_false}
 
 -- ---- one reference
 
@@ -99,7 +97,7 @@ no_unknown_first mentions = record { none = none_at_first (λ n m. IsUnknown (ma
 
 pub no_unknown_next : (mentions : List code.Mention) (i : ℕ) (m : code.Mention) (b : Bool) → i < length mentions → m ≡ get_or mentions i m → b ≡ false → (IsTrue b ↔ IsUnknown (map mention_view mentions) (reference_view m.refers)) → NoUnknown mentions i → NoUnknown mentions (i + 1)
 no_unknown_next mentions i m b lt e isnt h s = record {
-  none = none_at_next (λ n m. IsUnknown (map mention_view mentions) m.refers) mentions i m lt e (λ u. false_not b isnt (h.1 u)) s.none;
+  none = none_at_next (λ n m. IsUnknown (map mention_view mentions) m.refers) mentions i m lt e (λ u. true_is_not_false b isnt (h.1 u)) s.none;
 }
 
 pub unknown_here : (mentions : List code.Mention) (i : ℕ) (m : code.Mention) (b : Bool) → i < length mentions → m ≡ get_or mentions i m → b ≡ true → (IsTrue b ↔ IsUnknown (map mention_view mentions) (reference_view m.refers)) → NoUnknown mentions i → IsLeast (λ n. IsAt (map mention_view mentions) n (λ m. IsUnknown (map mention_view mentions) m.refers)) (Some i)
@@ -120,7 +118,7 @@ no_borrow_first mentions = record { none = none_at_first (λ n. LeadsToBorrow (m
 
 pub no_borrow_next : (mentions : List code.Mention) (i : ℕ) (m : code.Mention) (b : Bool) → i < length mentions → m ≡ get_or mentions i m → b ≡ false → (IsTrue b ↔ LeadsToBorrow (map mention_view mentions) (mention_view m)) → NoBorrow mentions i → NoBorrow mentions (i + 1)
 no_borrow_next mentions i m b lt e isnt h s = record {
-  none = none_at_next (λ n. LeadsToBorrow (map mention_view mentions)) mentions i m lt e (λ u. false_not b isnt (h.1 u)) s.none;
+  none = none_at_next (λ n. LeadsToBorrow (map mention_view mentions)) mentions i m lt e (λ u. true_is_not_false b isnt (h.1 u)) s.none;
 }
 
 pub borrow_here : (mentions : List code.Mention) (i : ℕ) (m : code.Mention) (b : Bool) → i < length mentions → m ≡ get_or mentions i m → b ≡ true → (IsTrue b ↔ LeadsToBorrow (map mention_view mentions) (mention_view m)) → NoBorrow mentions i → IsLeast (λ n. IsAt (map mention_view mentions) n (LeadsToBorrow (map mention_view mentions))) (Some i)

@@ -3,32 +3,22 @@ use Rattle.std.proofs.Common.{◌≡◌, ℕ, ◌+◌, Bool, true, false, ◌&&�
 use Rattle.cm_wit_tokens.specs.declared.token.Form.{Form}
 use Rattle.cm_wit_tokens.specs.declared.token.Token.{Token}
 use Rattle.cm_wit_tokens.specs.declared.fault.WitReason.{WitReason}
-use Rattle.cm_wit_tokens.specs.Faults.{Fault, and_then}
 use Rattle.cm_wit_tokens.specs.Grammar.{first, Grammar, done, ◌>>=◌, taken, token_reads, token, passes, chosen}
 use Rattle.cm_wit_tokens.specs.Reading.{next_form}
 use Rattle.cm_wit_package.specs.Words.{is_word, words}
 use Rattle.cm_wit_package.proofs.Lexing.{forms}
+use Rattle.cm_lemmas.proofs.Bools.{both_true}
+use Rattle.cm_wit_tokens.proofs.ReadLaws.{ok_is}
+use Rattle.cm_wit_tokens.proofs.FaultsLaws.{ok_of}
+use Rattle.cm_wit_tokens.proofs.Tools.{then_from_ok, then_ok}
 
 -- ---- results
-
-abbrev pub ok_of : {A : Type 0} → A → Result A Fault
-ok_of x = Ok x
-
-pub ok_is : {A : Type 0} (x y : A) → ok_of x ≡ ok_of y → x ≡ y
-ok_is x y e = cc
 
 pub pair_is : {A : Type 0} (x y : A) (ts rest : List Token) → ok_of {A = A × List Token} (x, ts) ≡ ok_of (y, rest) → (x ≡ y) × (ts ≡ rest)
 pair_is {A} x y ts rest e = let p = ok_is {A = A × List Token} (x, ts) (y, rest) e in (ap (λ (z : A × List Token). z.0) p, ap (λ (z : A × List Token). z.1) p)
 
 pub pair_of : {A : Type 0} (x y : A) (ts rest : List Token) → x ≡ y → ts ≡ rest → ok_of {A = A × List Token} (x, ts) ≡ ok_of (y, rest)
 pair_of {A} x y ts rest e q = ap (λ (z : A). ok_of {A = A × List Token} (z, ts)) e ∙ ap (λ (us : List Token). ok_of {A = A × List Token} (y, us)) q
-
-pub then_ok : {A B : Type 0} (r : Result A Fault) (next : A → Result B Fault) (y : B) → and_then r next ≡ Ok y → (x : A) × (r ≡ Ok x) × (next x ≡ Ok y)
-then_ok (Ok x) next y e = (x, refl, e)
-then_ok (Err d) next y e = absurd cc
-
-pub then_from : {A B : Type 0} (r : Result A Fault) (next : A → Result B Fault) (x : A) (out : Result B Fault) → r ≡ Ok x → next x ≡ out → and_then r next ≡ out
-then_from r next x out e h = rw e h
 
 -- ---- tokens of these forms, whatever their places
 
@@ -114,7 +104,7 @@ mapped {A} {B} {g} {q} {p} {front} {S} {R} f c is = record {
         behind = m.behind;
         parts = ap p (sym k.0) ∙ (is a.0.0 ∙ m.parts);
         canon = record {
-          again = λ all after b r. then_from (g.reads all) (λ (u : A × List Token). ok_of {A = B × List Token} (f u.0, u.1)) (a.0.0, after) (Ok (y, after)) (m.canon.again all after b r) (pair_of (f a.0.0) y after after k.0 refl);
+          again = λ all after b r. then_from_ok (g.reads all) (λ (u : A × List Token). ok_of {A = B × List Token} (f u.0, u.1)) (a.0.0, after) (Ok (y, after)) (m.canon.again all after b r) (pair_of (f a.0.0) y after after k.0 refl);
           same = m.canon.same ∙ ap (λ (us : List Token). words m.behind ++ words (forms us)) k.1;
           starts = m.canon.starts;
         };
@@ -134,7 +124,7 @@ bind {A} {B} {g} {h} {q} {p} {front} {S} {R} M l t = record {
           again = λ all after b r.
               let s = split (q a.0.0) d.behind all after b in
               let m : M (next_form s.0) ≡ true = rw (behind_first d.behind s.0 after s.2) (d.canon.starts (next_form after) r) in
-              then_from (g.reads all) (λ (u : A × List Token). (h u.0).reads u.1) (a.0.0, s.0) (Ok (y, after)) (c.again all s.0 s.1 m) (d.canon.again s.0 after s.2 r);
+              then_from_ok (g.reads all) (λ (u : A × List Token). (h u.0).reads u.1) (a.0.0, s.0) (Ok (y, after)) (c.again all s.0 s.1 m) (d.canon.again s.0 after s.2 r);
           same = c.same ∙ (ap (λ (z : List Form). words (q a.0.0) ++ z) d.canon.same ∙ (sym (append_assoc (words (q a.0.0)) (words d.behind) (words (forms rest))) ∙ ap (λ (z : List Form). z ++ words (forms rest)) (sym (words_append (q a.0.0) d.behind))));
           starts = λ next r. rw (first_form_append (q a.0.0) d.behind next) (c.starts (first_form d.behind next) (d.canon.starts next r));
         };
@@ -166,10 +156,6 @@ pub passes_at : (test : Form → Bool) (ts : List Token) → passes test (first 
 passes_at test [] = refl
 passes_at test (t ∷ ts) = refl
 
-pub both : (a b : Bool) → (a && b) ≡ true → (a ≡ true) × (b ≡ true)
-both true b h = (refl, h)
-both false b h = absurd cc
-
 pub is_not : (a : Bool) → not a ≡ true → a ≡ false
 is_not true h = absurd cc
 is_not false h = refl
@@ -190,21 +176,21 @@ if_false b x y e = rw e refl
 pub then_canon : {A : Type 0} {g h : Grammar A} {y : A} {ts rest : List Token} {fs : List Form} {S R : Option Form → Bool} (test : Form → Bool) → Canon g y ts rest fs (passing test S) R → Canon (chosen test g h) y ts rest fs S R
 then_canon {A} {g} {h} {y} {ts} {rest} {fs} {S} {R} test c = record {
   again = λ all after b r.
-      let s = both _ _ (c.starts (next_form after) r) in
+      let s = both_true _ _ (c.starts (next_form after) r) in
       let goes : passes test (first all) ≡ true = passes_at test all ∙ rw (behind_first fs all after b) s.0 in
       if_true (passes test (first all)) (g.reads all) (h.reads all) goes ∙ c.again all after b r;
   same = c.same;
-  starts = λ next r. (both _ _ (c.starts next r)).1;
+  starts = λ next r. (both_true _ _ (c.starts next r)).1;
 }
 
 pub else_canon : {A : Type 0} {g h : Grammar A} {y : A} {ts rest : List Token} {fs : List Form} {S R : Option Form → Bool} (test : Form → Bool) → Canon h y ts rest fs (failing test S) R → Canon (chosen test g h) y ts rest fs S R
 else_canon {A} {g} {h} {y} {ts} {rest} {fs} {S} {R} test c = record {
   again = λ all after b r.
-      let s = both _ _ (c.starts (next_form after) r) in
+      let s = both_true _ _ (c.starts (next_form after) r) in
       let stays : passes test (first all) ≡ false = passes_at test all ∙ rw (behind_first fs all after b) (is_not _ s.0) in
       if_false (passes test (first all)) (g.reads all) (h.reads all) stays ∙ c.again all after b r;
   same = c.same;
-  starts = λ next r. (both _ _ (c.starts next r)).1;
+  starts = λ next r. (both_true _ _ (c.starts next r)).1;
 }
 
 module _ {A : Type 0} {g h : Grammar A} {front : List Form → List Form} {p : A → List Form} {S R : Option Form → Bool} (test : Form → Bool) (c : Chain g front p (passing test S) R) (d : Chain h front p (failing test S) R) where

@@ -15,8 +15,11 @@ use Rattle.cm_wit_tokens.specs.Reading.{next_form}
 use Rattle.cm_wit_package.specs.TreeTokens.{mark, behind_commas, with_commas}
 use Rattle.cm_wit_package.proofs.Lexing.{forms}
 use Rattle.cm_wit_package.specs.Words.{words}
-use Rattle.cm_wit_package.proofs.Chains.{ok_of, pair_is, pair_of, then_ok, then_from, split, first_form, behind_first, words_append, Canon, Law, law, bind, end, at, passes_at, is_not, if_false, token_parts}
-use Rattle.cm_wit_package.proofs.ListLaws.{operator_is, if_ok, some_is, any, StepLaw, steps_law}
+use Rattle.cm_wit_package.proofs.Chains.{pair_is, pair_of, split, first_form, behind_first, words_append, Canon, Law, law, bind, end, at, passes_at, is_not, if_false, token_parts}
+use Rattle.cm_wit_package.proofs.ListLaws.{operator_is, if_ok, any, StepLaw, steps_law}
+use Rattle.cm_wit_tokens.proofs.FaultsLaws.{ok_of}
+use Rattle.cm_lemmas.proofs.Options.{some_is}
+use Rattle.cm_wit_tokens.proofs.Tools.{then_from_ok, then_ok}
 
 -- ---- what may stand behind things
 
@@ -146,7 +149,7 @@ module _ {A : Type 0} (closing : Operator) (g : Grammar A) (p : A → List Form)
       subst (λ (zs : List A). Canon ((next_item closing g) >>= h) zs ts rest (Items zs) calm (closed closing)) (sym z ∙ y) (record {
         again = λ all after b r.
             let here : closed closing (next_form all) ≡ true = rw b r in
-            then_from ((next_item closing g).reads all) (λ (u : Option A × List Token). (h u.0).reads u.1) (None, all) (Ok ([], after)) (next_item_law.stop all here) (ap (λ (q : Grammar (List A)). q.reads all) n ∙ pair_of {A = List A} [] [] all after refl b);
+            then_from_ok ((next_item closing g).reads all) (λ (u : Option A × List Token). (h u.0).reads u.1) (None, all) (Ok ([], after)) (next_item_law.stop all here) (ap (λ (q : Grammar (List A)). q.reads all) n ∙ pair_of {A = List A} [] [] all after refl b);
         same = none_kept ts mid e ∙ ap (λ (us : List Token). words (forms us)) k;
         starts = closed_calm closing c;
       })
@@ -162,8 +165,8 @@ module _ {A : Type 0} (closing : Operator) (g : Grammar A) (p : A → List Form)
         again = λ all after b r.
             let h = split first_part (Items a.0.0) all after b in
             let s : calm (next_form h.0) ≡ true = rw (behind_first (Items a.0.0) h.0 after h.2) (d.starts (next_form after) r) in
-            then_from ((next_item closing g).reads all) (λ (u : Option A × List Token). (and_more more u.0).reads u.1) (Some x, h.0) (Ok (x ∷ a.0.0, after)) (m.again all h.0 h.1 s)
-            (then_from (more.reads h.0) (λ (u : List A × List Token). ok_of {A = List A × List Token} (x ∷ u.0, u.1)) (a.0.0, after) (Ok (x ∷ a.0.0, after)) (d.again h.0 after h.2 r) refl);
+            then_from_ok ((next_item closing g).reads all) (λ (u : Option A × List Token). (and_more more u.0).reads u.1) (Some x, h.0) (Ok (x ∷ a.0.0, after)) (m.again all h.0 h.1 s)
+            (then_from_ok (more.reads h.0) (λ (u : List A × List Token). ok_of {A = List A × List Token} (x ∷ u.0, u.1)) (a.0.0, after) (Ok (x ∷ a.0.0, after)) (d.again h.0 after h.2 r) refl);
         same = m.same ∙ (ap (λ (z : List Form). words first_part ++ z) d.same ∙ (sym (append_assoc (words first_part) (words (Items a.0.0)) (words (forms a.0.1))) ∙ ap (λ (z : List Form). z ++ words (forms a.0.1)) (sym (words_append first_part (Items a.0.0)))));
         starts = λ next r. refl;
       }))
@@ -181,7 +184,7 @@ module _ {A : Type 0} (closing : Operator) (g : Grammar A) (p : A → List Form)
         subst (λ (zs : List A). Canon (last_comma >>= λ _. done []) zs ts rest (Items zs) calm (closed closing)) k.0 (record {
           again = λ all after b r.
               let here : closed closing (next_form all) ≡ true = rw b r in
-              then_from (last_comma.reads all) (λ (u : Unit {0} × List Token). ok_of {A = List A × List Token} ([], u.1)) (tt, all) (Ok ([], after)) (no_comma_left all here) (pair_of {A = List A} [] [] all after refl b);
+              then_from_ok (last_comma.reads all) (λ (u : Unit {0} × List Token). ok_of {A = List A × List Token} ([], u.1)) (tt, all) (Ok ([], after)) (no_comma_left all here) (pair_of {A = List A} [] [] all after refl b);
           same = uncomma (passes (is_operator operator.Comma) (first ts)) a.0.0 ts a.0.1 a.1 ∙ ap (λ (us : List Token). words (forms us)) k.1;
           starts = closed_calm closing c;
         });

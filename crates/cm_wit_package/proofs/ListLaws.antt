@@ -14,14 +14,18 @@ use Rattle.cm_wit_tokens.specs.Keywords.{spelling, keyword_of}
 use Rattle.cm_wit_tokens.specs.Operators.{operator_spelling, operator_of}
 use Rattle.cm_wit_tokens.specs.declared.fault.WitReason.{WitReason}
 use Rattle.cm_wit_tokens.specs.declared.fault.WitReason.TheVariants as reason
-use Rattle.cm_wit_tokens.specs.Faults.{Fault, and_then}
+use Rattle.cm_wit_tokens.specs.Faults.{Fault}
 use Rattle.cm_wit_tokens.specs.Grammar.{Grammar, token, with_front, after_step, steps_in, steps}
 use Rattle.cm_wit_tokens.specs.Parts.{expect, expect_word, identifier, identifier_of, length_of, version_of}
 use Rattle.cm_wit_tokens.specs.Reading.{next_form}
 use Rattle.cm_wit_package.specs.TreeTokens.{mark, keyword, name_tokens}
 use Rattle.cm_wit_package.proofs.Lexing.{forms}
 use Rattle.cm_wit_package.specs.Words.{words}
-use Rattle.cm_wit_package.proofs.Chains.{ok_of, pair_is, pair_of, then_ok, then_from, Behind, split, behind_length, first_form, first_form_append, behind_first, words_append, Canon, Law, table_law}
+use Rattle.cm_wit_package.proofs.Chains.{pair_is, pair_of, Behind, split, behind_length, first_form, first_form_append, behind_first, words_append, Canon, Law, table_law}
+use Rattle.cm_wit_tokens.proofs.FaultsLaws.{ok_of}
+use Rattle.cm_lemmas.proofs.Options.{some_is}
+use Rattle.cm_wit_tokens.proofs.Tools.{then_from_ok, then_ok}
+use Rattle.cm_wit_tokens.proofs.ListLaws.{turn}
 
 -- ---- operators and keywords are the same where their texts are
 
@@ -47,9 +51,6 @@ from_spelling operator.Slash = refl
 from_spelling operator.Period = refl
 from_spelling operator.At = refl
 from_spelling operator.Underscore = refl
-
-pub some_is : {A : Type 0} (x y : A) → Some x ≡ Some y → x ≡ y
-some_is x y e = cc
 
 pub operator_is : (o : Operator) (f : Form) → is_operator o f ≡ true → f ≡ form.Operator o
 operator_is o (form.Operator p) h =
@@ -203,11 +204,6 @@ pub record Run {A : Type 0} (s : Grammar (Option A)) (xs : List A) (ts rest : Li
   pub same : words (forms ts) ≡ words fs ++ words (forms rest)
   pub starts : (next : Option Form) → R next ≡ true → M (first_form fs next) ≡ true
 
-turn : {A : Type 0} (s : Grammar (Option A)) (turns : ℕ) (all : List Token) → length all < turns → (fewer : ℕ) × (turns ≡ suc fewer) × (steps_in s turns all ≡ and_then (s.reads all) (λ p. after_step (steps_in s fewer) p.0 p.1))
-unfolding steps_in
-turn s zero all lt = absurd (omega (arith, lt))
-turn s (suc fewer) all lt = (fewer, refl, refl)
-
 abbrev Steps : {A : Type 0} → Grammar (Option A) → (A → List Form) → (Option Form → Bool) → (Option Form → Bool) → (List Token → Result (List A × List Token) Fault) → Type 0
 Steps {A} s p M R more = (xs : List A) (ts rest : List Token) → more ts ≡ Ok (xs, rest) → Run s xs ts rest (flat_map p xs) M R
 
@@ -219,7 +215,7 @@ module _ {A : Type 0} (s : Grammar (Option A)) (p : A → List Form) (M R : Opti
         again = λ turns all after lt b r.
             let t = turn s turns all lt in
             let here : R (next_form all) ≡ true = rw b r in
-            t.2 ∙ then_from (s.reads all) (λ (u : Option A × List Token). after_step (steps_in s t.0) u.0 u.1) (None, all) (Ok ([], after)) (l.stop all here) (pair_of {A = List A} [] [] all after refl b);
+            t.2 ∙ then_from_ok (s.reads all) (λ (u : Option A × List Token). after_step (steps_in s t.0) u.0 u.1) (None, all) (Ok ([], after)) (l.stop all here) (pair_of {A = List A} [] [] all after refl b);
         same = l.none ts mid e ∙ ap (λ (us : List Token). words (forms us)) k.1;
         starts = l.calm;
       })
@@ -236,8 +232,8 @@ module _ {A : Type 0} (s : Grammar (Option A)) (p : A → List Form) (M R : Opti
             let h = split (p x) (flat_map p a.0.0) all after b in
             let m : M (next_form h.0) ≡ true = rw (behind_first (flat_map p a.0.0) h.0 after h.2) (d.starts (next_form after) r) in
             let fewer : length h.0 < t.0 = omega (arith, lt, t.1, l.long x ts mid e, behind_length (p x) all h.0 h.1) in
-            t.2 ∙ then_from (s.reads all) (λ (u : Option A × List Token). after_step (steps_in s t.0) u.0 u.1) (Some x, h.0) (Ok (x ∷ a.0.0, after)) (c.again all h.0 h.1 m)
-            (then_from (steps_in s t.0 h.0) (λ (u : List A × List Token). ok_of {A = List A × List Token} (x ∷ u.0, u.1)) (a.0.0, after) (Ok (x ∷ a.0.0, after)) (d.again t.0 h.0 after fewer h.2 r) refl);
+            t.2 ∙ then_from_ok (s.reads all) (λ (u : Option A × List Token). after_step (steps_in s t.0) u.0 u.1) (Some x, h.0) (Ok (x ∷ a.0.0, after)) (c.again all h.0 h.1 m)
+            (then_from_ok (steps_in s t.0 h.0) (λ (u : List A × List Token). ok_of {A = List A × List Token} (x ∷ u.0, u.1)) (a.0.0, after) (Ok (x ∷ a.0.0, after)) (d.again t.0 h.0 after fewer h.2 r) refl);
         same = c.same ∙ (ap (λ (z : List Form). words (p x) ++ z) d.same ∙ (sym (append_assoc (words (p x)) (words (flat_map p a.0.0)) (words (forms a.0.1))) ∙ ap (λ (z : List Form). z ++ words (forms a.0.1)) (sym (words_append (p x) (flat_map p a.0.0)))));
         starts = λ next r. rw (first_form_append (p x) (flat_map p a.0.0) next) (c.starts (first_form (flat_map p a.0.0) next) (d.starts next r));
       }))

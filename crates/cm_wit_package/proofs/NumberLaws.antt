@@ -16,17 +16,15 @@ use Rattle.cm_wit_tokens.specs.Tokens.{from_digits, integer_of, token_front, int
 use Rattle.cm_wit_package.proofs.Lexing.{Lexes, token_first}
 use Rattle.cm_wit_package.proofs.Goods.{IsWhole}
 use Rattle.cm_wit_package.proofs.WordLaws.{whole_by, run_of_whole, shorter}
+use Rattle.cm_lemmas.proofs.Options.{some_number}
 
 digits_by : (fits : Bool) (n d k : ℕ) (ds : List ℕ) → (if fits then from_digits n ds else None) ≡ Some k → (from_digits n ds ≡ Some k → from_digits n (ds ++ d ∷ []) ≡ Some (k * 10 + (d - 48))) → (if fits then from_digits n (ds ++ d ∷ []) else None) ≡ Some (k * 10 + (d - 48))
 digits_by true n d k ds e h = h e
 digits_by false n d k ds e h = absurd cc
 
-some_is : (n k : ℕ) → Some n ≡ Some k → n ≡ k
-some_is n k e = cc
-
 one_more : (ds : List ℕ) (n d k : ℕ) → from_digits n ds ≡ Some k → k * 10 + (d - 48) < 2 ^ 32 → from_digits n (ds ++ d ∷ []) ≡ Some (k * 10 + (d - 48))
 unfolding from_digits
-one_more [] n d k e lt = rw (some_is n k e, lt-ltb (k * 10 + (d - 48)) (2 ^ 32) lt) refl
+one_more [] n d k e lt = rw (some_number n k e, lt-ltb (k * 10 + (d - 48)) (2 ^ 32) lt) refl
 one_more (b ∷ ds) n d k e lt = digits_by (nat_lt (n * 10 + (b - 0x30)) (2 ^ 32)) (n * 10 + (b - 0x30)) d k ds e (λ h. one_more ds (n * 10 + (b - 0x30)) d k h lt)
 
 whole_more : (ds : List ℕ) (d : ℕ) → is_ascii_digit d ≡ true → IsWhole run.Digits ds → IsWhole run.Digits (ds ++ d ∷ [])

@@ -1,5 +1,5 @@
 -- What a text is read as, its printed text is read as again.
-use Rattle.std.proofs.Common.{◌≡◌, ℕ, List, [], ◌∷◌, ◌++◌, length, Option, Some, None, Result, Ok, Err, refl, ap, subst, ◌∙◌, append-nil}
+use Rattle.std.proofs.Common.{◌≡◌, ℕ, List, [], ◌∷◌, ◌++◌, length, Option, None, Result, Ok, refl, ap, subst, ◌∙◌, append-nil}
 use Rattle.cm_wit_tokens.specs.declared.token.Form.{Form}
 use Rattle.cm_wit_tokens.specs.declared.token.Form.TheVariants as form
 use Rattle.cm_wit_tokens.specs.declared.token.Token.{Token}
@@ -8,7 +8,7 @@ use Rattle.cm_wit_tokens.specs.declared.fault.WitFault.{WitFault}
 use Rattle.cm_wit_tokens.specs.Faults.{Fault}
 use Rattle.cm_wit_tokens.specs.Grammar.{Grammar}
 use Rattle.cm_wit_tokens.specs.Lists.{is_member}
-use Rattle.cm_wit_tokens.specs.Whole.{to_end, whole, at_stop, placed, text_reads}
+use Rattle.cm_wit_tokens.specs.Whole.{to_end, whole, placed, text_reads}
 use Rattle.cm_wit_reading.specs.Files.{file}
 use Rattle.cm_wit_reading.specs.Trees.{File}
 use Rattle.cm_wit_package.specs.Printed.{file_text}
@@ -17,25 +17,17 @@ use Rattle.cm_wit_package.proofs.Lexing.{forms}
 use Rattle.cm_wit_package.proofs.Goods.{AreGood, tokens_good}
 use Rattle.cm_wit_package.proofs.TextTokens.{file_text_tokens}
 use Rattle.cm_wit_package.specs.Words.{words}
-use Rattle.cm_wit_package.proofs.Chains.{at, ok_is, then_ok, Behind, behind_all, Canon}
+use Rattle.cm_wit_package.proofs.Chains.{at, Behind, behind_all, Canon}
 use Rattle.cm_wit_package.proofs.ItemLaws.{ends}
 use Rattle.cm_wit_package.proofs.FileLaws.{file_law}
+use Rattle.cm_wit_tokens.proofs.ReadLaws.{ok_is}
+use Rattle.cm_wit_reading.proofs.TreesLaws.{placed_ok}
+use Rattle.cm_wit_tokens.proofs.Tools.{then_ok}
 
 -- ---- texts that were read
 
 abbrev fault_ok : {A : Type 0} → A → Result A WitFault
 fault_ok x = Ok x
-
-fault_ok_is : {A : Type 0} (x y : A) → fault_ok x ≡ fault_ok y → x ≡ y
-fault_ok_is x y e = cc
-
-stop_ok : (size : ℕ) (stop : Option ℕ) (x y : File) → at_stop size stop x ≡ Ok y → (stop ≡ None) × (x ≡ y)
-stop_ok size None x y e = (refl, fault_ok_is x y e)
-stop_ok size (Some left) x y e = absurd cc
-
-placed_ok : (size : ℕ) (stop : Option ℕ) (r : Result File Fault) (y : File) → placed size stop r ≡ Ok y → r ≡ Ok y
-placed_ok size stop (Ok x) y e = ap (λ (z : File). Ok z) (stop_ok size stop x y e).1
-placed_ok size stop (Err f) y e = absurd cc
 
 end_ok : (x y : File) (rest : List Token) → to_end x rest ≡ Ok y → (rest ≡ []) × (x ≡ y)
 end_ok x y [] e = (refl, ok_is x y e)

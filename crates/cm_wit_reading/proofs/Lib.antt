@@ -4,3 +4,4 @@ pub mod FileLaws
 pub mod TypeLaws
 pub mod TypesSeen
 pub mod SignatureLaws
+pub mod TreesLaws

@@ -1,9 +1,9 @@
 -- Imports and exports that are added one after another.
-use Rattle.std.proofs.Common.{◌≡◌, ℕ, suc, ◌+◌, ◌-◌, ◌<◌, ◌≤◌, nat_lt, Bool, true, false, ◌&&◌, if◌then◌else◌, List, [], ◌∷◌, ◌++◌, length, map, Option, Some, None, slice_get, slice_index_or, zero, refl, sym, ap, subst, ◌∙◌, arith, append_assoc, append-nil}
+use Rattle.std.proofs.Common.{◌≡◌, ℕ, suc, ◌+◌, ◌-◌, ◌<◌, ◌≤◌, nat_lt, Bool, true, false, if◌then◌else◌, List, [], ◌∷◌, ◌++◌, length, map, Option, Some, None, slice_get, slice_index_or, zero, refl, sym, ap, subst, ◌∙◌, arith, append_assoc, append-nil}
 use Rattle.std.specs.List.{flat_map, list_all}
 use Rattle.std.specs.Option.{option_and_then}
 use Rattle.std.proofs.lemmas.List.{map-append}
-use Rattle.std.proofs.lemmas.Bool.Decides.{nat_tests}
+use Rattle.std.proofs.lemmas.Bool.{and_from}
 use Rattle.cm_types.specs.Types.{Ty, FuncTy}
 use Rattle.cm_types.specs.Signatures.{NamedItem, NamedExtern, ExternTy, SignatureTy, func, instance}
 use Rattle.cm_types_arena.specs.Replaced.{replaced_func}
@@ -23,13 +23,16 @@ use Rattle.cm_wit_worlds.specs.Interfaces.{PlacedInterface, PlacedWorld}
 use Rattle.cm_wit_meanings.specs.declared.fault.MeaningFault.{MeaningFault}
 use Rattle.cm_wit_meanings.specs.declared.fault.MeaningFault.TheVariants as fault
 use Rattle.cm_wit_meanings.specs.Places.{Extends}
-use Rattle.cm_wit_meanings.specs.Faults.{is_func_spellable}
 use Rattle.cm_wit_items.specs.ItemFaults.{AreWithin, are_spelled, IsFaultWith}
 use Rattle.cm_wit_items.specs.Functions.{extern_funcs, funcs_in}
 use Rattle.cm_wit_items.specs.Signatures.{NamedFunc, Scopes, interface_extern, instance_extern, func_extern, func_at, in_front, func_in_front, externs_from, with_exports}
 use Rattle.cm_wit_signature.specs.Adding.{behind, AreExternsFault, Adds}
 use Rattle.cm_wit_signature.specs.PartViews.{are_made_there}
-use Rattle.cm_wit_signature.proofs.GrowthLaws.{extends_length, func_kept, less_of, test_of, below_more}
+use Rattle.cm_wit_items.proofs.ItemLaws.{all_both as all_joined, first_unspelled, all_left, all_right, second_unspelled}
+use Rattle.cm_lemmas.proofs.Numbers.{below_more, less_of, lt_true, lt_false}
+use Rattle.cm_wit_meanings.proofs.GrowthLaws.{extends_length}
+use Rattle.cm_lemmas.proofs.Bools.{both_left, both_right}
+use Rattle.cm_wit_meanings.proofs.PlacesLaws.{func_kept}
 
 -- ---- imports and exports stay what they are
 
@@ -46,24 +49,13 @@ ItemsStayThere = (types more : List Ty) (funcs further : List FuncTy) (is : Shar
     → are_shared_items_there (length types) (length funcs) is.items.items ≡ true
     → are_shared_items_there (length more) (length further) is.items.items ≡ true
 
-first_true : (a b : Bool) → (a && b) ≡ true → a ≡ true
-first_true true b h = refl
-first_true false b h = absurd cc
-
-second_true : (a b : Bool) → (a && b) ≡ true → b ≡ true
-second_true true b h = h
-second_true false b h = absurd cc
-
-both_true : (a b : Bool) → a ≡ true → b ≡ true → (a && b) ≡ true
-both_true a b e f = ap (λ (x : Bool). x && b) e ∙ f
-
 module _ (fronts : List Front) (stay : ItemsStay) (there : ItemsStayThere) (types more : List Ty) (funcs further : List FuncTy) (e : Extends types more) (g : Extends funcs further) where
   desc_kept : (d : SharedDesc) → is_shared_there (length types) (length funcs) d ≡ true → shared_desc_of more further d ≡ shared_desc_of types funcs d
   desc_kept (shared.Func p) h = ap (λ (f : FuncTy). func (replaced_func (moved_by p.by) f)) (func_kept funcs further p.place g (less_of p.place (length funcs) h))
   desc_kept (shared.Instance is) h = ap (λ (items : List NamedItem). instance (map (replaced_item (moved_by None)) items)) (stay types more funcs further is e g h)
 
   desc_more : (d : SharedDesc) → is_shared_there (length types) (length funcs) d ≡ true → is_shared_there (length more) (length further) d ≡ true
-  desc_more (shared.Func p) h = test_of p.place (length further) (below_more (length funcs) (length further) p.place (extends_length funcs further g) (less_of p.place (length funcs) h))
+  desc_more (shared.Func p) h = lt_true p.place (length further) (below_more (length funcs) (length further) p.place (extends_length funcs further g) (less_of p.place (length funcs) h))
   desc_more (shared.Instance is) h = there types more funcs further is e g h
 
   one_kept : (x : SharedExtern) → is_shared_there (length types) (length funcs) x.desc ≡ true → shared_extern_of more further fronts x ≡ shared_extern_of types funcs fronts x
@@ -75,16 +67,16 @@ module _ (fronts : List Front) (stay : ItemsStay) (there : ItemsStayThere) (type
   all_kept : (es : List SharedExtern) → are_there types funcs es ≡ true → map (shared_extern_of more further fronts) es ≡ map (shared_extern_of types funcs fronts) es
   all_kept [] h = refl
   all_kept (x ∷ es) h =
-      let p = first_true (is_shared_there (length types) (length funcs) x.desc) (are_there types funcs es) h in
-      let q = second_true (is_shared_there (length types) (length funcs) x.desc) (are_there types funcs es) h in
+      let p = both_left (is_shared_there (length types) (length funcs) x.desc) (are_there types funcs es) h in
+      let q = both_right (is_shared_there (length types) (length funcs) x.desc) (are_there types funcs es) h in
       rw (one_kept x p, all_kept es q) refl
 
   all_more : (es : List SharedExtern) (x : SharedExtern) → are_there types funcs es ≡ true → is_shared_there (length more) (length further) x.desc ≡ true → are_there more further (es ++ x ∷ []) ≡ true
-  all_more [] x h p = both_true (is_shared_there (length more) (length further) x.desc) true p refl
+  all_more [] x h p = and_from (is_shared_there (length more) (length further) x.desc) true p refl
   all_more (y ∷ es) x h p =
-      let a = first_true (is_shared_there (length types) (length funcs) y.desc) (are_there types funcs es) h in
-      let b = second_true (is_shared_there (length types) (length funcs) y.desc) (are_there types funcs es) h in
-      both_true (is_shared_there (length more) (length further) y.desc) (are_there more further (es ++ x ∷ [])) (desc_more y.desc a) (all_more es x b p)
+      let a = both_left (is_shared_there (length types) (length funcs) y.desc) (are_there types funcs es) h in
+      let b = both_right (is_shared_there (length types) (length funcs) y.desc) (are_there types funcs es) h in
+      and_from (is_shared_there (length more) (length further) y.desc) (are_there more further (es ++ x ∷ [])) (desc_more y.desc a) (all_more es x b p)
 
 -- ---- one more
 
@@ -129,12 +121,6 @@ behind_one : (front : List NamedExtern) (y : NamedExtern) (o : Option (List Name
 behind_one front y None = refl
 behind_one front y (Some ys) = ap Some (append_assoc front (y ∷ []) ys)
 
-test_less : (n count : ℕ) → n < count → nat_lt n count ≡ true
-test_less n count lt = grind (arith, nat_tests)
-
-test_more : (n count : ℕ) → count ≤ n → nat_lt n count ≡ false
-test_more n count le = grind (arith, nat_tests)
-
 module _ (all : List PlacedInterface) (w : PlacedWorld) (scopes : Scopes) (own l n : ℕ) where
   at_interface : nat_lt n (length all) ≡ true → (ns : List ℕ) → externs_from all w scopes own l (n ∷ ns) ≡ in_front (instance_extern all (scopes l) n) (externs_from all w scopes own (l + 1) ns)
   at_interface e ns = ap (λ (b : Bool). if b then in_front (instance_extern all (scopes l) n) (externs_from all w scopes own (l + 1) ns) else func_in_front (scopes own) (func_at w (n - length all)) (externs_from all w scopes own l ns)) e
@@ -148,47 +134,23 @@ module _ (all : List PlacedInterface) (w : PlacedWorld) (scopes : Scopes) (own l
 
     pub adds_instance : (old new : List NamedExtern) (x : NamedExtern) → interface_extern (scopes l) i ≡ Some x → new ≡ old ++ x ∷ [] → Adds all w scopes own n l (l + 1) old new
     adds_instance old new x e q ns =
-        ap (behind old) (at_interface (test_less n (length all) lt) ns ∙ ap (λ (o : Option NamedExtern). in_front o (externs_from all w scopes own (l + 1) ns)) (front ∙ e))
+        ap (behind old) (at_interface (lt_true n (length all) lt) ns ∙ ap (λ (o : Option NamedExtern). in_front o (externs_from all w scopes own (l + 1) ns)) (front ∙ e))
         ∙ (sym (behind_one old x (externs_from all w scopes own (l + 1) ns)) ∙ ap (λ (k : List NamedExtern). behind k (externs_from all w scopes own (l + 1) ns)) (sym q))
 
   module _ (le : length all ≤ n) where
     pub adds_func : (f : NamedFunc) (old new : List NamedExtern) (x : NamedExtern) → func_at w (n - length all) ≡ Some f → func_extern (scopes own) f ≡ Some x → new ≡ old ++ x ∷ [] → Adds all w scopes own n l l old new
     adds_func f old new x a e q ns =
-        ap (behind old) (at_func (test_more n (length all) le) ns ∙ (ap (λ (o : Option NamedFunc). func_in_front (scopes own) o (externs_from all w scopes own l ns)) a ∙ ap (λ (o : Option NamedExtern). in_front o (externs_from all w scopes own l ns)) e))
+        ap (behind old) (at_func (lt_false n (length all) le) ns ∙ (ap (λ (o : Option NamedFunc). func_in_front (scopes own) o (externs_from all w scopes own l ns)) a ∙ ap (λ (o : Option NamedExtern). in_front o (externs_from all w scopes own l ns)) e))
         ∙ (sym (behind_one old x (externs_from all w scopes own l ns)) ∙ ap (λ (k : List NamedExtern). behind k (externs_from all w scopes own l ns)) (sym q))
 
     pub adds_none : (old : List NamedExtern) → func_at w (n - length all) ≡ None → Adds all w scopes own n l l old old
-    adds_none old a ns = ap (behind old) (at_func (test_more n (length all) le) ns ∙ ap (λ (o : Option NamedFunc). func_in_front (scopes own) o (externs_from all w scopes own l ns)) a)
+    adds_none old a ns = ap (behind old) (at_func (lt_false n (length all) le) ns ∙ ap (λ (o : Option NamedFunc). func_in_front (scopes own) o (externs_from all w scopes own l ns)) a)
 
 -- ---- faults
 
-left_within : (fs gs : List FuncTy) → AreWithin (fs ++ gs) → AreWithin fs
-left_within [] gs w = tt
-left_within (a ∷ fs) gs w = (w.0, left_within fs gs w.1)
-
-right_within : (fs gs : List FuncTy) → AreWithin (fs ++ gs) → AreWithin gs
-right_within [] gs w = w
-right_within (a ∷ fs) gs w = right_within fs gs w.1
-
-one_unspelled : (b c d : Bool) → (c ≡ false → d ≡ false) → (b && c) ≡ false → (b && d) ≡ false
-one_unspelled true c d h e = h e
-one_unspelled false c d h e = refl
-
-first_unspelled : (xs ys : List FuncTy) → are_spelled xs ≡ false → are_spelled (xs ++ ys) ≡ false
-first_unspelled [] ys h = absurd cc
-first_unspelled (x ∷ xs) ys h = one_unspelled (is_func_spellable x) (are_spelled xs) (are_spelled (xs ++ ys)) (first_unspelled xs ys) h
-
-second_unspelled : (xs ys : List FuncTy) → are_spelled ys ≡ false → are_spelled (xs ++ ys) ≡ false
-second_unspelled [] ys h = h
-second_unspelled (x ∷ xs) ys h = false_second (is_func_spellable x) (are_spelled (xs ++ ys)) (second_unspelled xs ys h)
-  where
-    false_second : (a b : Bool) → b ≡ false → (a && b) ≡ false
-    false_second true b e = e
-    false_second false b e = refl
-
 part_within : (front : List NamedExtern) (y : NamedExtern) (rest : List NamedExtern) → AreWithin (flat_map extern_funcs (front ++ y ∷ rest)) → AreWithin (extern_funcs y)
-part_within [] y rest w = left_within (extern_funcs y) (flat_map extern_funcs rest) w
-part_within (x ∷ xs) y rest w = part_within xs y rest (right_within (extern_funcs x) (flat_map extern_funcs (xs ++ y ∷ rest)) w)
+part_within [] y rest w = all_left (extern_funcs y) (flat_map extern_funcs rest) w
+part_within (x ∷ xs) y rest w = part_within xs y rest (all_right (extern_funcs x) (flat_map extern_funcs (xs ++ y ∷ rest)) w)
 
 part_unspelled : (front : List NamedExtern) (y : NamedExtern) (rest : List NamedExtern) → are_spelled (extern_funcs y) ≡ false → are_spelled (flat_map extern_funcs (front ++ y ∷ rest)) ≡ false
 part_unspelled [] y rest h = first_unspelled (extern_funcs y) (flat_map extern_funcs rest) h
@@ -209,20 +171,16 @@ module _ (all : List PlacedInterface) (w : PlacedWorld) (scopes : Scopes) (own l
   pub instance_fault : (i : PlacedInterface) → slice_get all n ≡ Some i → n < length all → IsFaultWith extern_funcs (interface_extern (scopes l) i) f → (ns : List ℕ) → AreExternsFault (behind old (externs_from all w scopes own l (n ∷ ns))) f
   instance_fault i is lt h ns =
       subst (λ (o : Option (List NamedExtern)). AreExternsFault (behind old o) f)
-      (sym (at_interface all w scopes own l n (test_less n (length all) lt) ns ∙ ap (λ (o : Option NamedExtern). in_front o (externs_from all w scopes own (l + 1) ns)) (front all w scopes own l n i is lt)))
+      (sym (at_interface all w scopes own l n (lt_true n (length all) lt) ns ∙ ap (λ (o : Option NamedExtern). in_front o (externs_from all w scopes own (l + 1) ns)) (front all w scopes own l n i is lt)))
       (front_fault old (interface_extern (scopes l) i) (externs_from all w scopes own (l + 1) ns) f h)
 
   pub func_fault : (g : NamedFunc) → func_at w (n - length all) ≡ Some g → length all ≤ n → IsFaultWith extern_funcs (func_extern (scopes own) g) f → (ns : List ℕ) → AreExternsFault (behind old (externs_from all w scopes own l (n ∷ ns))) f
   func_fault g a le h ns =
       subst (λ (o : Option (List NamedExtern)). AreExternsFault (behind old o) f)
-      (sym (at_func all w scopes own l n (test_more n (length all) le) ns ∙ ap (λ (o : Option NamedFunc). func_in_front (scopes own) o (externs_from all w scopes own l ns)) a))
+      (sym (at_func all w scopes own l n (lt_false n (length all) le) ns ∙ ap (λ (o : Option NamedFunc). func_in_front (scopes own) o (externs_from all w scopes own l ns)) a))
       (front_fault old (func_extern (scopes own) g) (externs_from all w scopes own l ns) f h)
 
 -- ---- imports and exports together
-
-all_joined : (fs gs : List FuncTy) → AreWithin fs → AreWithin gs → AreWithin (fs ++ gs)
-all_joined [] gs w v = v
-all_joined (a ∷ fs) gs w v = (w.0, all_joined fs gs w.1 v)
 
 unspelled_of : (is es : List NamedExtern) → are_spelled (flat_map extern_funcs is) ≡ false → are_spelled (funcs_in (record { imports = is; exports = es })) ≡ false
 unspelled_of is es h = first_unspelled (flat_map extern_funcs is) (flat_map extern_funcs es) h
@@ -235,7 +193,7 @@ imports_fault None es fault.NoSuchType h = refl
 imports_fault (Some xs) es fault.NoSuchType h = absurd cc
 imports_fault None es fault.TooLarge h = tt
 imports_fault (Some xs) None fault.TooLarge h = tt
-imports_fault (Some xs) (Some ys) fault.TooLarge h = λ w. h (left_within (flat_map extern_funcs xs) (flat_map extern_funcs ys) w)
+imports_fault (Some xs) (Some ys) fault.TooLarge h = λ w. h (all_left (flat_map extern_funcs xs) (flat_map extern_funcs ys) w)
 imports_fault None es fault.NotSpellable h = tt
 imports_fault (Some xs) None fault.NotSpellable h = tt
 imports_fault (Some xs) (Some ys) fault.NotSpellable h = unspelled_of xs ys h
@@ -245,7 +203,7 @@ exports_fault_of : (xs : List NamedExtern) (es : Option (List NamedExtern)) (f :
 exports_fault_of xs None fault.NoSuchType h = refl
 exports_fault_of xs (Some ys) fault.NoSuchType h = absurd cc
 exports_fault_of xs None fault.TooLarge h = tt
-exports_fault_of xs (Some ys) fault.TooLarge h = λ w. h (right_within (flat_map extern_funcs xs) (flat_map extern_funcs ys) w)
+exports_fault_of xs (Some ys) fault.TooLarge h = λ w. h (all_right (flat_map extern_funcs xs) (flat_map extern_funcs ys) w)
 exports_fault_of xs None fault.NotSpellable h = tt
 exports_fault_of xs (Some ys) fault.NotSpellable h = unspelled_out xs ys h
 exports_fault_of xs es fault.Memory h = tt
@@ -273,9 +231,9 @@ made_stays fronts stay there old new es e g h = made_kept fronts stay there old 
 all_stay_there : (fronts : List Front) (stay : ItemsStay) (there : ItemsStayThere) (types more : List Ty) (funcs further : List FuncTy) (e : Extends types more) (g : Extends funcs further) (es : List SharedExtern) → are_there fronts stay there types more funcs further e g types funcs es ≡ true → are_there fronts stay there types more funcs further e g more further es ≡ true
 all_stay_there fronts stay there types more funcs further e g [] h = refl
 all_stay_there fronts stay there types more funcs further e g (x ∷ es) h =
-    let a = first_true (is_shared_there (length types) (length funcs) x.desc) (are_there fronts stay there types more funcs further e g types funcs es) h in
-    let b = second_true (is_shared_there (length types) (length funcs) x.desc) (are_there fronts stay there types more funcs further e g types funcs es) h in
-    both_true (is_shared_there (length more) (length further) x.desc) (are_there fronts stay there types more funcs further e g more further es) (desc_more fronts stay there types more funcs further e g x.desc a) (all_stay_there fronts stay there types more funcs further e g es b)
+    let a = both_left (is_shared_there (length types) (length funcs) x.desc) (are_there fronts stay there types more funcs further e g types funcs es) h in
+    let b = both_right (is_shared_there (length types) (length funcs) x.desc) (are_there fronts stay there types more funcs further e g types funcs es) h in
+    and_from (is_shared_there (length more) (length further) x.desc) (are_there fronts stay there types more funcs further e g more further es) (desc_more fronts stay there types more funcs further e g x.desc a) (all_stay_there fronts stay there types more funcs further e g es b)
 
 pub made_there : (fronts : List Front) (stay : ItemsStay) (there : ItemsStayThere) (old new : Types) (es : List SharedExtern) → Extends (types_of old) (types_of new) → Extends (funcs_of old) (funcs_of new) → are_made_there old es ≡ true → are_made_there new es ≡ true
 made_there fronts stay there old new es e g h = all_stay_there fronts stay there (types_of old) (types_of new) (funcs_of old) (funcs_of new) e g es h

@@ -11,7 +11,7 @@ use Rattle.cm_wit_tokens.specs.Faults.{Fault, and_then}
 use Rattle.cm_wit_tokens.specs.Grammar.{Grammar, token}
 use Rattle.cm_wit_tokens.specs.Lists.{items, items_and, members}
 use Rattle.cm_wit_tokens.specs.Parts.{expect, expect_word, identifier}
-use Rattle.cm_wit_tokens.specs.Whole.{text_reads, whole, placed, to_end}
+use Rattle.cm_wit_tokens.specs.Whole.{text_reads, whole, to_end}
 use Rattle.cm_wit_reading.specs.Types.{Ty, most_depth}
 use Rattle.cm_wit_reading.specs.Signatures.{Func, any_type, typed, params, func, local, foreign_rest, optional_version}
 use Rattle.cm_wit_reading.specs.declared.heads.TypeHead.{TypeHead}
@@ -33,6 +33,7 @@ use Rattle.cm_wit_signature.specs.Written.{IsWritten, IsWrittenDef}
 use Rattle.cm_wit_signature.specs.Files.{AreWrittenParams, IsWrittenFunc, IsWrittenResourceFunc, AreWrittenFuncsOf, IsWrittenItem, IsWrittenExtern, IsWrittenWorldItem, IsWrittenFileItem, IsWrittenFile}
 use Rattle.cm_wit_signature.proofs.ReadLaws.{Only, anything, done_only, bind_only, next_only, chosen_only, SomeAll, items_only, SomeFew, few_only, members_only}
 use Rattle.cm_wit_signature.proofs.TypeTexts.{ty_only, IsWrittenTyped, typed_only, params_only, func_only}
+use Rattle.cm_wit_reading.proofs.TreesLaws.{placed_ok}
 
 braced_only : {A : Type 0} (P : A → Type 0) (g : Grammar A) → Only P g → Only P (braced g)
 braced_only {A} P g l = next_only P (expect operator.LeftBrace) _ (λ _. bind_only P P g _ l (λ x p. next_only P (expect operator.RightBrace) _ (λ _. done_only P x p)))
@@ -169,11 +170,6 @@ end_only x (t ∷ ts) w f e = absurd cc
 read_only : (r : Result (File × List Token) Fault) → ((x : File) (rest : List Token) → r ≡ Ok (x, rest) → IsWrittenFile x) → (f : File) → and_then r (λ p. to_end p.0 p.1) ≡ Ok f → IsWrittenFile f
 read_only (Ok p) h f e = end_only p.0 p.1 (h p.0 p.1 refl) f e
 read_only (Err d) h f e = absurd cc
-
-placed_ok : (size : ℕ) (stop : Option ℕ) (r : Result File Fault) (f : File) → placed size stop r ≡ Ok f → r ≡ Ok f
-placed_ok size None (Ok x) f e = cc
-placed_ok size (Some left) (Ok x) f e = absurd cc
-placed_ok size stop (Err d) f e = absurd cc
 
 pub texts_write : (text : List ℕ) (f : File) → text_reads file text ≡ Ok f → IsWrittenFile f
 texts_write text f e = read_only (file.reads (lexed text).tokens) (file_only.read (lexed text).tokens) f (placed_ok (length text) (lexed text).stop (whole file (lexed text).tokens) f e)

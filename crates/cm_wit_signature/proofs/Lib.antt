@@ -1,4 +1,3 @@
-mod GrowthLaws
 mod ExternLaws
 mod OneLaws
 mod LoopLaws

@@ -1,29 +1,12 @@
 -- Lists made element by element.
-use Rattle.std.proofs.Common.{◌≡◌, ℕ, ◌+◌, ◌<◌, ◌≤◌, nat_lt, Bool, true, false, List, [], ◌∷◌, ◌++◌, length, map, drop, get_or, refl, sym, ap, ◌∙◌, arith, append_assoc, append-nil}
+use Rattle.std.proofs.Common.{◌≡◌, ℕ, ◌+◌, ◌<◌, ◌≤◌, Bool, List, [], ◌∷◌, ◌++◌, length, map, drop, get_or, refl, sym, ap, ◌∙◌, append_assoc, append-nil}
 use Rattle.std.proofs.lemmas.List.{drop_all, drop_more, map-append, length-map}
-use Rattle.std.proofs.lemmas.Bool.Decides.{nat_tests}
 use Rattle.cm_wit_tables.specs.Worlds.{Instance}
 use Rattle.cm_wit_tables.specs.DeclaredViews.{instance_view}
 use Rattle.cm_wit_tables.specs.declared.declarations.Instance as code_instance
 use Rattle.cm_wit_signature.specs.Sides.{interfaces_below, side_instances}
-
--- What stands there is what the first elements are, and the rest of them make all.
-pub record Shows {A B C : Type 0} (view : A → B) (shown : C → B) (xs : List A) (i : ℕ) (out : List C) : Type 0 where
-  pub is : map shown out ++ map view (drop i xs) ≡ map view xs
-
-pub shows_start : {A B C : Type 0} (view : A → B) (shown : C → B) (xs : List A) → Shows view shown xs 0 []
-shows_start view shown xs = record { is = refl }
-
-pub shows_push : {A B C : Type 0} (view : A → B) (shown : C → B) (xs : List A) (i : ℕ) (out : List C) (x : A) (c : C) → i < length xs → x ≡ get_or xs i x → shown c ≡ view x → Shows view shown xs i out → Shows view shown xs (i + 1) (out ++ c ∷ [])
-shows_push {A} {B} {C} view shown xs i out x c lt e same f = record {
-  is = ap (λ (l : List B). l ++ map view (drop (i + 1) xs)) (map-append shown out (c ∷ []))
-      ∙ (append_assoc (map shown out) (shown c ∷ []) (map view (drop (i + 1) xs))
-      ∙ (ap (λ (b : B). map shown out ++ b ∷ map view (drop (i + 1) xs)) same
-      ∙ (sym (ap (λ (l : List B). map shown out ++ l) (ap (map view) (drop_more xs i x lt ∙ ap (λ (a : A). a ∷ drop (i + 1) xs) (sym e)))) ∙ f.is)));
-}
-
-pub shows_end : {A B C : Type 0} (view : A → B) (shown : C → B) (xs : List A) (i : ℕ) (out : List C) → length xs ≤ i → Shows view shown xs i out → map shown out ≡ map view xs
-shows_end {A} {B} {C} view shown xs i out le f = sym (append-nil (map shown out)) ∙ (sym (ap (λ (l : List A). map shown out ++ map view l) (drop_all i xs le)) ∙ f.is)
+use Rattle.cm_lemmas.proofs.Numbers.{lt_false, lt_true}
+use Rattle.cm_lemmas.proofs.Lists.{shows_end, shows_push, shows_start}
 
 pub ruleset file_laws = (shows_start, shows_push, shows_end)
 
@@ -36,12 +19,6 @@ pub record Sides (exported : Bool) (count : ℕ) (ns : List ℕ) (i : ℕ) (star
 
 pub sides_start : (exported : Bool) (count : ℕ) (ns : List ℕ) (start : List code_instance.Instance) → Sides exported count ns 0 start start
 sides_start exported count ns start = record { is = refl }
-
-lt_true : (a b : ℕ) → a < b → nat_lt a b ≡ true
-lt_true a b h = grind (arith, nat_tests, h)
-
-lt_false : (a b : ℕ) → b ≤ a → nat_lt a b ≡ false
-lt_false a b h = grind (arith, nat_tests, h)
 
 next_kept : (exported : Bool) (count : ℕ) (ns : List ℕ) (i x : ℕ) → i < length ns → x ≡ get_or ns i x → x < count → side_instances exported count (drop i ns) ≡ record { exported = exported; interface = x } ∷ side_instances exported count (drop (i + 1) ns)
 next_kept exported count ns i x lt e h =

@@ -20,7 +20,7 @@ use Rattle.cm_wit_meanings.specs.Scopes.{scope_at}
 use Rattle.cm_wit_signature.specs.Adding.{behind, AreExternsFault, Adds}
 use Rattle.cm_wit_signature.specs.PartViews.{scopes_in, interfaces_in, world_in, externs_made, are_made_there}
 use Rattle.cm_wit_signature.specs.declared.parts.Parts.{Parts}
-use Rattle.cm_wit_signature.proofs.GrowthLaws.{extends_same, extends_more}
+use Rattle.cm_wit_meanings.proofs.GrowthLaws.{extends_more, extends_same}
 
 -- what names stand for stays what it is
 abbrev pub TablesStay : Type 0

@@ -1,8 +1,9 @@
 -- What written types and definitions stand for.
-use Rattle.std.proofs.Common.{◌≡◌, ℕ, ◌<◌, ◌≤◌, ◌&&◌, not, nat_lt, nat_le, Bool, true, List, [], ◌∷◌, length, refl, ap, ◌∙◌, Option, Some, None, arith}
+use Rattle.std.proofs.Common.{◌≡◌, ℕ, ◌<◌, ◌≤◌, ◌&&◌, not, nat_lt, nat_le, Bool, true, List, [], ◌∷◌, length, refl, Option, Some, None, arith}
 use Rattle.std.proofs.lemmas.Bool.Decides.{nat_tests}
 use Rattle.std.specs.List.{AllByRecursion}
 use Rattle.std.specs.Option.{IfSome, option_map, option_and_then}
+use Rattle.std.proofs.lemmas.Bool.{and_from}
 use Rattle.cm_types.specs.declared.spellable.TheConstants.{MAX_FLAGS}
 use Rattle.cm_types.specs.declared.resource.ResourceId.{ResourceId}
 use Rattle.cm_types.specs.Types as types
@@ -19,15 +20,13 @@ use Rattle.cm_wit_meanings.specs.Faults.{is_func_spellable}
 use Rattle.cm_wit_meanings.specs.Scopes.{Scope, Meaning, value, as_type, as_resource}
 use Rattle.cm_wit_signature.specs.Written.{IsWritten, AreWritten, IsWrittenDef, NamesSpellable}
 use Rattle.cm_wit_signature.specs.Files.{IsWrittenFunc, IsWrittenResourceFunc}
+use Rattle.cm_types.proofs.SpellableLemmas.{plain_spellable}
 
 abbrev types_func : types.Fields → Option types.Ty → types.FuncTy
 types_func ps t = record { params = ps; result = t }
 
 abbrev pub Spelled : types.Ty → Type 0
 Spelled x = is_spellable x ≡ true
-
-both : (a b : Bool) → a ≡ true → b ≡ true → (a && b) ≡ true
-both a b p q = ap (λ (x : Bool). x && b) p ∙ q
 
 below : (n : ℕ) → 0 < n → nat_lt 0 n ≡ true
 below n h = grind (arith, nat_tests, h)
@@ -71,15 +70,15 @@ AreSpelled xs = are_spellable (parts_from xs) ≡ true
 before : (o : Option types.Ty) (os : Option (List types.Ty)) → IfSome o Spelled → IfSome os (λ xs. are_spellable (parts_from xs) ≡ true) → IfSome (option_and_then (λ x. option_map (λ xs. x ∷ xs) os) o) (λ xs. are_spellable (parts_from xs) ≡ true)
 before None os p q = tt {0}
 before (Some x) None p q = tt {0}
-before (Some x) (Some xs) p q = both (is_spellable x) (are_spellable (parts_from xs)) p q
+before (Some x) (Some xs) p q = and_from (is_spellable x) (are_spellable (parts_from xs)) p q
 
 tupled : (o : Option types.Ty) (os : Option (List types.Ty)) → IfSome o Spelled → IfSome os (λ xs. are_spellable (parts_from xs) ≡ true) → IfSome (option_map tuple_of (option_and_then (λ x. option_map (λ xs. x ∷ xs) os) o)) Spelled
 tupled None os p q = tt {0}
 tupled (Some x) None p q = tt {0}
-tupled (Some x) (Some xs) p q = both (is_spellable x) (are_spellable (parts_from xs)) p q
+tupled (Some x) (Some xs) p q = and_from (is_spellable x) (are_spellable (parts_from xs)) p q
 
 with_true : (b : Bool) → b ≡ true → (b && true) ≡ true
-with_true b p = both b true p refl
+with_true b p = and_from b true p refl
 
 mutual
   pub meaning_spelled : (s : Scope) → NamesSpellable s → (t : wit.Ty) → IsWritten t → IfSome (meaning s t) (λ x. is_spellable x ≡ true)
@@ -87,14 +86,14 @@ mutual
   meaning_spelled s names (wit.named n) w = named_spelled (s n) (λ m e. names n m e)
   meaning_spelled s names (wit.borrow n) w = borrow_spelled (option_and_then as_resource (s n))
   meaning_spelled s names (wit.list t) w = mapped types.list (meaning s t) (λ x p. p) (meaning_spelled s names t w)
-  meaning_spelled s names (wit.fixed_list t n) w = mapped (λ x. types.fixed_list x n) (meaning s t) (λ x p. both (nat_lt 0 n) (is_spellable x) (below n w.0) p) (meaning_spelled s names t w.1)
+  meaning_spelled s names (wit.fixed_list t n) w = mapped (λ x. types.fixed_list x n) (meaning s t) (λ x p. and_from (nat_lt 0 n) (is_spellable x) (below n w.0) p) (meaning_spelled s names t w.1)
   meaning_spelled s names (wit.option t) w = mapped option_of (meaning s t) (λ x p. with_true (is_spellable x) p) (meaning_spelled s names t w)
   meaning_spelled s names (wit.tuple wit.no_types) w = absurd w.0
   meaning_spelled s names (wit.tuple (wit.types t ts)) w = tupled (meaning s t) (meanings s ts) (meaning_spelled s names t w.1.0) (meanings_spelled s names ts w.1.1)
   meaning_spelled s names wit.plain_result w = refl
   meaning_spelled s names (wit.ok_result t) w = mapped (λ x. result_of (Some x) None) (meaning s t) (λ x p. with_true (is_spellable x) p) (meaning_spelled s names t w)
   meaning_spelled s names (wit.error_result t) w = mapped (λ x. result_of None (Some x)) (meaning s t) (λ x p. with_true (is_spellable x) p) (meaning_spelled s names t w)
-  meaning_spelled s names (wit.result t u) w = two (λ x y. result_of (Some x) (Some y)) (meaning s t) (meaning s u) (λ x y p q. both (is_spellable x) (is_spellable y && true) p (with_true (is_spellable y) q)) (meaning_spelled s names t w.0) (meaning_spelled s names u w.1)
+  meaning_spelled s names (wit.result t u) w = two (λ x y. result_of (Some x) (Some y)) (meaning s t) (meaning s u) (λ x y p q. and_from (is_spellable x) (is_spellable y && true) p (with_true (is_spellable y) q)) (meaning_spelled s names t w.0) (meaning_spelled s names u w.1)
 
   meanings_spelled : (s : Scope) → NamesSpellable s → (ts : wit.Tys) → AreWritten ts → IfSome (meanings s ts) (λ xs. are_spellable (parts_from xs) ≡ true)
   meanings_spelled s names wit.no_types w = refl
@@ -116,12 +115,12 @@ labelled l (Some x) p = p
 field_before : (o : Option TypedLabel) (os : Option (List TypedLabel)) → IfSome o (λ f. is_spellable f.1 ≡ true) → IfSome os (λ fs. are_spellable (fields_from fs) ≡ true) → IfSome (option_and_then (λ y. option_map (λ ys. y ∷ ys) os) o) (λ fs. are_spellable (fields_from fs) ≡ true)
 field_before None os p q = tt {0}
 field_before (Some f) None p q = tt {0}
-field_before (Some f) (Some fs) p q = both (is_spellable f.1) (are_spellable (fields_from fs)) p q
+field_before (Some f) (Some fs) p q = and_from (is_spellable f.1) (are_spellable (fields_from fs)) p q
 
 record_before : (o : Option TypedLabel) (os : Option (List TypedLabel)) → IfSome o (λ f. is_spellable f.1 ≡ true) → IfSome os (λ fs. are_spellable (fields_from fs) ≡ true) → IfSome (option_map value (option_map meant.record_of (option_and_then (λ y. option_map (λ ys. y ∷ ys) os) o))) (λ m. is_spellable (as_type m) ≡ true)
 record_before None os p q = tt {0}
 record_before (Some f) None p q = tt {0}
-record_before (Some f) (Some fs) p q = both (is_spellable f.1) (are_spellable (fields_from fs)) p q
+record_before (Some f) (Some fs) p q = and_from (is_spellable f.1) (are_spellable (fields_from fs)) p q
 
 fields_spelled : (s : Scope) → NamesSpellable s → (fs : List Typed) → AllByRecursion (λ f. IsWritten f.1) fs → IfSome (each_meaning (typed_meaning s) fs) (λ xs. are_spellable (fields_from xs) ≡ true)
 fields_spelled s names [] w = refl
@@ -148,7 +147,7 @@ case_spelled s names c w = by c.ty w
 
 one_case : (l : List ℕ) (p : Option types.Ty) (cs : types.Cases) → IfSome p Spelled → are_spellable_payloads cs ≡ true → are_spellable_payloads (case_before l p cs) ≡ true
 one_case l None cs p q = q
-one_case l (Some x) cs p q = both (is_spellable x) (are_spellable_payloads cs) p q
+one_case l (Some x) cs p q = and_from (is_spellable x) (are_spellable_payloads cs) p q
 
 is_case : (l : List ℕ) (p : Option types.Ty) (cs : types.Cases) → not (has_no_cases (case_before l p cs)) ≡ true
 is_case l None cs = refl
@@ -162,7 +161,7 @@ case_first (Some c) (Some cs) p q = one_case c.0 c.1 (cases_from cs) p q
 variant_first : (o : Option CaseOf) (os : Option (List CaseOf)) → IfSome o (λ (c : CaseOf). IfSome c.1 Spelled) → IfSome os (λ cs. are_spellable_payloads (cases_from cs) ≡ true) → IfSome (option_map value (option_map variant_of (option_and_then (λ y. option_map (λ ys. y ∷ ys) os) o))) (λ m. is_spellable (as_type m) ≡ true)
 variant_first None os p q = tt {0}
 variant_first (Some c) None p q = tt {0}
-variant_first (Some c) (Some cs) p q = both (not (has_no_cases (case_before c.0 c.1 (cases_from cs)))) (are_spellable_payloads (case_before c.0 c.1 (cases_from cs))) (is_case c.0 c.1 (cases_from cs)) (one_case c.0 c.1 (cases_from cs) p q)
+variant_first (Some c) (Some cs) p q = and_from (not (has_no_cases (case_before c.0 c.1 (cases_from cs)))) (are_spellable_payloads (case_before c.0 c.1 (cases_from cs))) (is_case c.0 c.1 (cases_from cs)) (one_case c.0 c.1 (cases_from cs) p q)
 
 cases_spelled : (s : Scope) → NamesSpellable s → (cs : List Case) → AllByRecursion (λ c. IfSome c.ty IsWritten) cs → IfSome (each_meaning (case_meaning s) cs) (λ xs. are_spellable_payloads (cases_from xs) ≡ true)
 cases_spelled s names [] w = refl
@@ -172,20 +171,16 @@ variant_spelled : (s : Scope) → NamesSpellable s → (cs : List Case) → 0 < 
 variant_spelled s names [] some w = absurd (omega (arith, some))
 variant_spelled s names (c ∷ cs) some w = variant_first (case_meaning s c) (each_meaning (case_meaning s) cs) (case_spelled s names c w.0) (cases_spelled s names cs w.1)
 
-plain_spelled : (ls : List (List ℕ)) → are_spellable_payloads (plain_from ls) ≡ true
-plain_spelled [] = refl
-plain_spelled (l ∷ ls) = plain_spelled ls
-
 enum_spelled : (ls : List (List ℕ)) → 0 < length ls → is_spellable (types.cases types.enum_type (plain_from ls)) ≡ true
 enum_spelled [] some = absurd (omega (arith, some))
-enum_spelled (l ∷ ls) some = plain_spelled ls
+enum_spelled (l ∷ ls) some = plain_spellable ls
 
 pub def_spelled : (s : Scope) → NamesSpellable s → (r : ResourceId) (d : TypeDef) → IsWrittenDef d → IfSome (def_meaning s r d) (λ m. is_spellable (as_type m) ≡ true)
 def_spelled s names r (alias t) w = aliased (meaning s t) (meaning_spelled s names t w)
 def_spelled s names r (record_of fs) w = record_spelled s names fs w.0 w.1
 def_spelled s names r (variant cs) w = variant_spelled s names cs w.0 w.1
 def_spelled s names r (enum ls) w = enum_spelled ls w
-def_spelled s names r (flags ls) w = both (nat_lt 0 (length ls)) (nat_le (length ls) MAX_FLAGS) (below (length ls) w.0) (at_most (length ls) MAX_FLAGS w.1)
+def_spelled s names r (flags ls) w = and_from (nat_lt 0 (length ls)) (nat_le (length ls) MAX_FLAGS) (below (length ls) w.0) (at_most (length ls) MAX_FLAGS w.1)
 def_spelled s names r (resource fs) w = refl
 
 -- ---- functions
@@ -202,7 +197,7 @@ func_made : (ps : Option (List TypedLabel)) (t : Option (Option types.Ty)) → I
     → IfSome (option_and_then (λ (xs : List TypedLabel). option_map (λ (x : Option types.Ty). types_func (fields_from xs) x) t) ps) (λ f. is_func_spellable f ≡ true)
 func_made None t p q = tt {0}
 func_made (Some xs) None p q = tt {0}
-func_made (Some xs) (Some x) p q = both (are_spellable (fields_from xs)) (is_spellable_payload x) p q
+func_made (Some xs) (Some x) p q = and_from (are_spellable (fields_from xs)) (is_spellable_payload x) p q
 
 pub func_spelled : (s : Scope) → NamesSpellable s → (f : Func) → IsWrittenFunc f → IfSome (func_meaning s f) (λ t. is_func_spellable t ≡ true)
 func_spelled s names f w = func_made (each_meaning (typed_meaning s) f.params) (payload_meaning s f.result) (fields_spelled s names f.params w.0) (payload_spelled s names f.result w.1)

@@ -7,24 +7,16 @@ use Rattle.cm_wit_tokens.specs.declared.operator.Operator.TheVariants as operato
 use Rattle.cm_wit_tokens.specs.declared.token.Token.{Token}
 use Rattle.cm_wit_tokens.specs.declared.token.Form.{Form}
 use Rattle.cm_wit_tokens.specs.declared.fault.WitReason.{WitReason}
-use Rattle.cm_wit_tokens.specs.Faults.{Fault, and_then}
+use Rattle.cm_wit_tokens.specs.Faults.{Fault}
 use Rattle.cm_wit_tokens.specs.Grammar.{first, Grammar, done, ◌>>=◌, taken, token_reads, token, passes, chosen, with_front, after_step, steps_in, steps}
 use Rattle.cm_wit_tokens.specs.Lists.{next_item, items, and_more, last_comma, at_most, items_and, next_member, members}
 use Rattle.cm_wit_tokens.specs.Parts.{expect}
+use Rattle.cm_wit_tokens.proofs.ReadLaws.{ok_is}
+use Rattle.cm_wit_tokens.proofs.Tools.{then_ok}
 
 -- Of each value that the grammar reads the fact holds.
 pub record Only {A : Type 0} (P : A → Type 0) (g : Grammar A) : Type 0 where
   pub read : (ts : List Token) (x : A) (rest : List Token) → g.reads ts ≡ Ok (x, rest) → P x
-
-abbrev ok_of : {A : Type 0} → A → Result A Fault
-ok_of x = Ok x
-
-ok_is : {A : Type 0} (x y : A) → ok_of x ≡ ok_of y → x ≡ y
-ok_is x y e = cc
-
-then_ok : {A B : Type 0} (r : Result A Fault) (next : A → Result B Fault) (y : B) → and_then r next ≡ Ok y → (x : A) × (r ≡ Ok x) × (next x ≡ Ok y)
-then_ok (Ok x) next y e = (x, refl, e)
-then_ok (Err d) next y e = absurd cc
 
 pub anything : {A : Type 0} (g : Grammar A) → Only (λ (x : A). Unit {0}) g
 anything g = record { read = λ ts x rest e. tt {0} }

@@ -1,9 +1,7 @@
 -- Tests of all elements, one after another.
 use Rattle.std.proofs.Common.{◌≡◌, ℕ, ◌+◌, ◌<◌, ◌≤◌, Bool, true, false, ◌&&◌, List, [], ◌∷◌, length, map, drop, get_or, refl, sym, ap, ◌∙◌}
-use Rattle.std.proofs.lemmas.List.{drop_all, drop_more}
-
-next_element : {A B : Type 0} (view : A → B) (xs : List A) (i : ℕ) (x : A) → i < length xs → x ≡ get_or xs i x → map view (drop i xs) ≡ view x ∷ map view (drop (i + 1) xs)
-next_element {A} view xs i x lt is = ap (map view) (drop_more xs i x lt ∙ ap (λ (a : A). a ∷ drop (i + 1) xs) (sym is))
+use Rattle.std.proofs.lemmas.List.{drop_all}
+use Rattle.cm_lemmas.proofs.Lists.{next_element}
 
 -- The test of all is that of the rest, which begins with the i-th.
 pub record Rests {A B : Type 0} (view : A → B) (F : ℕ → List B → Bool) (xs : List A) (i : ℕ) : Type 0 where

@@ -1,5 +1,5 @@
 -- Where names lead to types.
-use Rattle.std.proofs.Common.{◌≡◌, ℕ, true, false, List, map, length, sym, subst}
+use Rattle.std.proofs.Common.{◌≡◌, ℕ, List, map, length, sym, subst}
 use Rattle.std.proofs.lemmas.List.{length-map}
 use Rattle.cm_wit_reading.specs.Trees.{File}
 use Rattle.cm_wit_worlds.specs.Interfaces.{PlacedWorld}
@@ -26,8 +26,5 @@ module _ (fs : List File) (w : PlacedWorld) (instances : List code_instance.Inst
 
   pub own_has : HaveTypes fs w (map instance_view instances) → OwnFuncsHaveTypes w ds (length instances)
   own_has h = subst (λ (d : List Declaration). OwnFuncsHaveTypes w d (length instances)) (sym e) (subst (λ (n : ℕ). OwnFuncsHaveTypes w (declarations fs (map instance_view instances)) n) (length-map instances instance_view) h.of_world)
-
-pub true_not : true ≡ false → ⊥
-true_not e = cc
 
 pub ruleset typed_laws = (length-map)

@@ -1,16 +1,15 @@
 -- Names that are added one part behind the other.
-use Rattle.std.proofs.Common.{◌≡◌, ℕ, ◌+◌, ◌<◌, ◌≤◌, List, [], ◌∷◌, ◌++◌, length, map, drop, get_or, Some, Box, Global, rules, refl, sym, ap, ◌∙◌, append_assoc, append-nil}
+use Rattle.std.proofs.Common.{◌≡◌, ℕ, ◌+◌, ◌<◌, ◌≤◌, List, [], ◌∷◌, ◌++◌, length, map, drop, get_or, refl, sym, ap, ◌∙◌, append_assoc, append-nil}
 use Rattle.std.proofs.lemmas.List.{drop_all}
 use Rattle.std.specs.List.{flat_map}
-use Rattle.cm_wit_reading.specs.declared.types.WitType.{WitType, the_lemmas}
-use Rattle.cm_wit_reading.specs.declared.types.WitType.TheViews as node
-use Rattle.cm_wit_reading.specs.Types.{Ty, result, types_from}
+use Rattle.cm_wit_reading.specs.declared.types.WitType.{WitType}
+use Rattle.cm_wit_reading.specs.Types.{Ty, types_from}
 use Rattle.cm_wit_reading.specs.TypeViews.{type_tree}
 use Rattle.cm_wit_tables.specs.Declarations.{names_in, names_in_all}
 use Rattle.cm_wit_tables.specs.TypeFaults.{borrowed_in, borrowed_in_all}
 use Rattle.cm_wit_tables.specs.declared.names.Names.{Names}
 use Rattle.cm_wit_tables.specs.Names.{Adds, texts}
-use Rattle.cm_wit_tables.proofs.MapLaws.{next_element}
+use Rattle.cm_lemmas.proofs.Lists.{next_element}
 
 abbrev pub Texts : Type 0
 Texts = List (List ℕ)
@@ -25,9 +24,6 @@ adds_then a b c d x y z p q = record {
 }
 
 pub ruleset add_laws = (adds_none, adds_then)
-
-pub seen_both : (a b : Box WitType Global) → type_tree (node.Result (Some a) (Some b)) ≡ result (type_tree a.value) (type_tree b.value)
-seen_both a b = search (rules, the_lemmas)
 
 -- ---- several parts
 

@@ -1,5 +1,5 @@
 -- A text stands for the same in scopes that agree on its names.
-use Rattle.std.proofs.Common.{◌≡◌, ℕ, List, [], ◌∷◌, ◌++◌, Option, Some, None, refl, ap}
+use Rattle.std.proofs.Common.{◌≡◌, ℕ, List, [], ◌∷◌, Option, Some, None, refl, ap}
 use Rattle.std.specs.List.{AllByRecursion, flat_map}
 use Rattle.std.specs.Option.{option_map, option_and_then}
 use Rattle.cm_types.specs.declared.resource.ResourceId.{ResourceId}
@@ -12,18 +12,11 @@ use Rattle.cm_wit_meanings.specs.Scopes.{Meaning, Scope, as_type, as_resource}
 use Rattle.cm_wit_meanings.specs.Meanings as meant
 use Rattle.cm_wit_meanings.specs.Meanings.{meaning, meanings, each_meaning, typed_meaning, case_meaning, payload_meaning, def_meaning}
 use Rattle.cm_wit_tables.specs.Declarations.{names_in, names_in_all, names_in_payload, names_in_def}
+use Rattle.cm_lemmas.proofs.Lists.{all_left, all_right}
 
 -- two scopes agree on these names
 abbrev pub Agree : Scope → Scope → List (List ℕ) → Type 0
 Agree s u names = AllByRecursion (λ n. s n ≡ u n) names
-
-pub all_left : {A : Type 0} (P : A → Type 0) (xs ys : List A) → AllByRecursion P (xs ++ ys) → AllByRecursion P xs
-all_left P [] ys h = tt
-all_left P (x ∷ xs) ys h = (h.0, all_left P xs ys h.1)
-
-pub all_right : {A : Type 0} (P : A → Type 0) (xs ys : List A) → AllByRecursion P (xs ++ ys) → AllByRecursion P ys
-all_right P [] ys h = h
-all_right P (x ∷ xs) ys h = all_right P xs ys h.1
 
 module _ (s u : Scope) where
   mutual

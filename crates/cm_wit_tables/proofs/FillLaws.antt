@@ -21,7 +21,10 @@ use Rattle.cm_wit_tables.specs.Declarations.{Declaration, uses}
 use Rattle.cm_wit_tables.specs.Tables.{Solves, IsWhole}
 use Rattle.cm_wit_tables.specs.Filled.{AreWithin, IsWithin, entry_at}
 use Rattle.cm_wit_tables.specs.FillFaults.{IsFillFault}
-use Rattle.cm_wit_tables.proofs.GrowthLaws.{extends_same, extends_more, table_kept, placed_more, within_more, all_set, all_same}
+use Rattle.cm_wit_tables.proofs.GrowthLaws.{extends_same, placed_more, within_more, all_set, all_same}
+use Rattle.cm_wit_meanings.proofs.GrowthLaws.{extends_more}
+use Rattle.cm_lemmas.proofs.Options.{some_mapped}
+use Rattle.cm_wit_meanings.proofs.ScopeLaws.{table_kept}
 
 abbrev pub Table : Type 0
 Table = List (Option Meaning)
@@ -37,12 +40,8 @@ same_length [] (y ∷ ys) h = let e = h 0 in absurd cc
 same_length (x ∷ xs) [] h = let e = h 0 in absurd cc
 same_length (x ∷ xs) (y ∷ ys) h = ap suc (same_length xs ys (λ k. h (suc k)))
 
-some_map : {A B : Type 0} (f : A → B) (o : Option A) → is_some (option_map f o) ≡ is_some o
-some_map f None = refl
-some_map f (Some x) = refl
-
 solved_length : (ds : List Declaration) (table : Table) → Solves ds table → length table ≡ length ds
-solved_length ds table s = same_length table ds (λ k. ap (λ (o : Option (Option Meaning)). is_some o) (s k) ∙ some_map _ (slice_get ds k))
+solved_length ds table s = same_length table ds (λ k. ap (λ (o : Option (Option Meaning)). is_some o) (s k) ∙ some_mapped _ (slice_get ds k))
 
 -- tables that agree on those declarations that one uses agree on what that one stands for
 abbrev pub Decides : List Declaration → Type 0

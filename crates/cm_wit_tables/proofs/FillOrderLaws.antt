@@ -9,6 +9,7 @@ use Rattle.std.proofs.lemmas.List.Elements.{All-from_recursion, recursion_from_A
 use Rattle.std.proofs.lemmas.Option.{slice_get_past}
 use Rattle.cm_wit_graph.specs.Orders.{Needs, Walk, IsOrder, IsBehind}
 use Rattle.cm_wit_tables.specs.Declarations.{Declaration, HasTypeCycle, IsRanked, refers, target, uses}
+use Rattle.cm_lemmas.proofs.Numbers.{nat_eq_of}
 
 -- ---- the first place of a number
 
@@ -18,9 +19,6 @@ first k (x ∷ xs) = cond (nat_eq k x) 0 (suc (first k xs))
 
 eq_self : (k : ℕ) → nat_eq k k ≡ true
 eq_self k = grind (arith, nat_tests)
-
-is_eq : (a b : ℕ) → nat_eq a b ≡ true → a ≡ b
-is_eq a b e = grind (arith, nat_tests)
 
 later_least : (t : Bool) (m i : ℕ) → m ≤ i → cond t 0 (suc m) ≤ suc i
 later_least true m i p = omega arith
@@ -38,7 +36,7 @@ abbrev StandsAt : ℕ → List ℕ → ℕ → Type 0
 StandsAt k xs i = (i < length xs) × (get_or xs i 0 ≡ k)
 
 first_by : (k x : ℕ) (xs : List ℕ) (t : Bool) → nat_eq k x ≡ t → (nat_eq k x ≡ false → StandsAt k xs (first k xs)) → StandsAt k (x ∷ xs) (cond t 0 (suc (first k xs)))
-first_by k x xs true f rest = (omega arith, sym (is_eq k x f))
+first_by k x xs true f rest = (omega arith, sym (nat_eq_of k x f))
 first_by k x xs false f rest = let p = rest f in let q = p.0 in (omega (arith, q), p.1)
 
 not_self : (k x : ℕ) → x ≡ k → nat_eq k x ≡ false → ⊥

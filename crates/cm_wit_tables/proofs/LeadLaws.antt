@@ -1,9 +1,10 @@
 -- Each name leads to a type just where the tests say so.
-use Rattle.std.proofs.Common.{◌≡◌, ◌↔◌, ℕ, zero, suc, Bool, true, false, ◌&&◌, is_some, List, [], ◌∷◌, Option, Some, None, slice_get, Result, IfOk, IsTrue, refl, sym, ap, subst, ◌∙◌}
+use Rattle.std.proofs.Common.{◌≡◌, ◌↔◌, ℕ, suc, Bool, true, false, ◌&&◌, is_some, List, [], ◌∷◌, Option, Some, None, slice_get, Result, IfOk, IsTrue, refl, sym, ap, subst, ◌∙◌}
 use Rattle.std.proofs.lemmas.Result.{IfOk-weaker}
 use Rattle.std.specs.declared.alloc.AllocError.{AllocError}
 use Rattle.std.specs.List.{AllByRecursion, list_all}
 use Rattle.std.specs.Borrow.{Bor}
+use Rattle.std.proofs.lemmas.Bool.{and_from}
 use Rattle.cm_wit_graph.specs.Graphs.{IsMarked}
 use Rattle.cm_names.specs.Keys.{Key}
 use Rattle.cm_wit_reading.specs.Trees.{TypeDef}
@@ -11,14 +12,9 @@ use Rattle.cm_wit_tables.specs.Declarations.{Declaration, Declared, brought, def
 use Rattle.cm_wit_tables.specs.TypeFaults.{IsResource, LeadsToType, LeadsToResource, HasTypes, AllHaveTypes, borrowed_in_def}
 use Rattle.cm_wit_tables.specs.Leading.{found, named, is_marked_place, have_types, has_types}
 use Rattle.cm_wit_tables.specs.Names.{texts}
-
-both_true : (a b : Bool) → (a && b) ≡ true → (a ≡ true) × (b ≡ true)
-both_true true b e = (refl, e)
-both_true false b e = absurd cc
-
-both : (a b : Bool) → a ≡ true → b ≡ true → (a && b) ≡ true
-both true b e f = f
-both false b e f = absurd cc
+use Rattle.cm_lemmas.proofs.Bools.{both_true}
+use Rattle.cm_lemmas.proofs.Lists.{all_found as each_passes}
+use Rattle.cm_lemmas.proofs.Options.{some_there}
 
 -- ---- lists
 
@@ -33,22 +29,13 @@ module _ (p : Key → Bool) (P : Key → Type 0) (is : (key : Key) → (p key �
 
   all_pass : (names : List (List ℕ)) → AllByRecursion (λ n. P (l, n)) names → list_all p (named l names) ≡ true
   all_pass [] h = refl
-  all_pass (n ∷ names) h = both (p (l, n)) (list_all p (named l names)) ((is (l, n)).1 h.0) (all_pass names h.1)
-
-each_passes : {A : Type 0} (p : A → Bool) (xs : List A) (k : ℕ) (x : A) → list_all p xs ≡ true → slice_get xs k ≡ Some x → p x ≡ true
-each_passes p [] k x h e = absurd cc
-each_passes {A} p (y ∷ xs) zero x h e = let same : y ≡ x = cc in subst (λ (z : A). p z ≡ true) same (both_true (p y) (list_all p xs) h).0
-each_passes p (y ∷ xs) (suc k) x h e = each_passes p xs k x (both_true (p y) (list_all p xs) h).1 e
+  all_pass (n ∷ names) h = and_from (p (l, n)) (list_all p (named l names)) ((is (l, n)).1 h.0) (all_pass names h.1)
 
 all_from : {A : Type 0} (p : A → Bool) (xs : List A) → ((k : ℕ) (x : A) → slice_get xs k ≡ Some x → p x ≡ true) → list_all p xs ≡ true
 all_from p [] h = refl
-all_from p (x ∷ xs) h = both (p x) (list_all p xs) (h 0 x refl) (all_from p xs (λ k y e. h (suc k) y e))
+all_from p (x ∷ xs) h = and_from (p x) (list_all p xs) (h 0 x refl) (all_from p xs (λ k y e. h (suc k) y e))
 
 -- ---- names
-
-some_there : (o : Option ℕ) → is_some o ≡ true → (j : ℕ) × (o ≡ Some j)
-some_there None h = absurd cc
-some_there (Some j) h = (j, refl)
 
 there_some : (o : Option ℕ) → ((j : ℕ) × (o ≡ Some j)) → is_some o ≡ true
 there_some o (j, e) = ap (λ (x : Option ℕ). is_some x) e
@@ -80,7 +67,7 @@ module _ (ds : List Declaration) (marks : List Bool) (marked : (k : ℕ) → IsM
   there_types l (brought None) h = absurd h
   there_types l (brought (Some key)) h = (leads_is key).1 h
   there_types l (defined t) h =
-      both (list_all (λ key. is_some (found (keys_of ds) key)) (named l (names_in_def t))) (list_all (λ key. is_marked_place marks (found (keys_of ds) key)) (named l (borrowed_in_def t)))
+      and_from (list_all (λ key. is_some (found (keys_of ds) key)) (named l (names_in_def t))) (list_all (λ key. is_marked_place marks (found (keys_of ds) key)) (named l (borrowed_in_def t)))
       (all_pass (λ key. is_some (found (keys_of ds) key)) (LeadsToType ds) leads_is l (names_in_def t) h.0)
       (all_pass (λ key. is_marked_place marks (found (keys_of ds) key)) (LeadsToResource ds) resource_is l (borrowed_in_def t) h.1)
 

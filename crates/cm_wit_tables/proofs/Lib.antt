@@ -7,7 +7,7 @@ mod OrderLaws
 mod AgreeLaws
 mod TableLaws
 mod ScopeResourceLaws
-mod RankLaws
+pub mod RankLaws
 mod ThereLaws
 mod ListLaws
 mod PlaceLaws

@@ -1,9 +1,7 @@
 -- Lists made element by element.
 use Rattle.std.proofs.Common.{◌≡◌, ℕ, ◌+◌, ◌<◌, ◌≤◌, List, [], ◌∷◌, ◌++◌, length, map, drop, get_or, refl, sym, ap, ◌∙◌, append_assoc, append-nil}
-use Rattle.std.proofs.lemmas.List.{drop_all, drop_more, map-append}
-
-pub next_element : {A B : Type 0} (view : A → B) (xs : List A) (i : ℕ) (x : A) → i < length xs → x ≡ get_or xs i x → map view (drop i xs) ≡ view x ∷ map view (drop (i + 1) xs)
-next_element {A} view xs i x lt is = ap (map view) (drop_more xs i x lt ∙ ap (λ (a : A). a ∷ drop (i + 1) xs) (sym is))
+use Rattle.std.proofs.lemmas.List.{drop_all, map-append}
+use Rattle.cm_lemmas.proofs.Lists.{next_element}
 
 -- What stands there, and what the rest gives, which begins with the i-th, make all.
 pub record Makes {A B D : Type 0} (view : A → B) (F : ℕ → List B → List D) (xs : List A) (i : ℕ) (out : List D) : Type 0 where

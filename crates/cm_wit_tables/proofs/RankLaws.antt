@@ -1,11 +1,12 @@
 -- Declarations of which none uses itself can be ranked.
-use Rattle.std.proofs.Common.{◌≡◌, ℕ, zero, suc, ◌+◌, ◌<◌, Bool, true, false, cond, List, [], ◌∷◌, length, Option, Some, None, slice_get, refl, arith}
-use Rattle.std.specs.List.{All, AllByRecursion, filter_map, cons_option, position_from}
+use Rattle.std.proofs.Common.{◌≡◌, ℕ, zero, suc, ◌<◌, List, [], ◌∷◌, length, Option, Some, None, slice_get, refl, arith}
+use Rattle.std.specs.List.{All, AllByRecursion, filter_map, cons_option}
 use Rattle.std.specs.Option.{option_map_or}
 use Rattle.std.proofs.lemmas.List.{length-map}
 use Rattle.cm_names.specs.Keys.{Key, is_key}
 use Rattle.cm_wit_graph.specs.Orders.{Needs, NeedsItself, IsWithin, IsRanked as IsRankedBy}
 use Rattle.cm_wit_tables.specs.Declarations.{Declaration, keys_of, key_of, refers, target, uses, IsRanked, HasTypeCycle}
+use Rattle.cm_lemmas.proofs.Lists.{position_below}
 
 pub by_recursion : {A : Type 0} (P : A → Type 0) (xs : List A) → All P xs → AllByRecursion P xs
 by_recursion P [] h = tt
@@ -15,17 +16,6 @@ pub by_places : {A : Type 0} (P : A → Type 0) (xs : List A) → AllByRecursion
 by_places P [] h k d lt = absurd (omega (arith, lt))
 by_places P (x ∷ xs) h zero d lt = h.0
 by_places P (x ∷ xs) h (suc k) d lt = by_places P xs h.1 k d (omega (arith, lt))
-
-some_is : (a b : ℕ) → Some a ≡ Some b → a ≡ b
-some_is a b f = cc
-
-below_by : (t : Bool) (i n k : ℕ) (rest : Option ℕ) → (rest ≡ Some k → k < i + 1 + n) → cond t (Some i) rest ≡ Some k → k < i + suc n
-below_by true i n k rest h f = let same = some_is i k f in omega (arith, same)
-below_by false i n k rest h f = let low = h f in omega (arith, low)
-
-position_below : {A : Type 0} (p : A → Bool) (i : ℕ) (xs : List A) (k : ℕ) → position_from p i xs ≡ Some k → k < i + length xs
-position_below p i [] k e = absurd cc
-position_below p i (x ∷ xs) k e = below_by (p x) i (length xs) k (position_from p (i + 1) xs) (position_below p (i + 1) xs k) e
 
 pub target_below : (ds : List Declaration) (key : Key) (j : ℕ) → target ds key ≡ Some j → j < length ds
 target_below ds key j e = let low = position_below (is_key key.0 key.1) 0 (keys_of ds) j e in omega (arith, low, length-map ds key_of)

@@ -1,16 +1,17 @@
 -- Just the declarations that lead to one of a resource are of resources.
-use Rattle.std.proofs.Common.{◌≡◌, ◌↔◌, ℕ, zero, suc, ◌+◌, ◌<◌, Bool, true, false, cond, List, [], ◌∷◌, length, map, get_or, Option, Some, None, slice_get, refl, sym, ap, subst, ◌∙◌, arith}
-use Rattle.std.specs.List.{Contains, cons_option, position_from}
+use Rattle.std.proofs.Common.{◌≡◌, ◌↔◌, ℕ, zero, suc, ◌+◌, ◌<◌, Bool, true, List, [], ◌∷◌, length, map, get_or, Option, Some, None, slice_get, refl, sym, ap, subst, ◌∙◌, arith}
+use Rattle.std.specs.List.{Contains, cons_option}
 use Rattle.std.specs.Option.{option_map}
 use Rattle.std.proofs.lemmas.List.{length-map, get_or_default}
 use Rattle.std.proofs.lemmas.Option.{slice_get_within, same_Some}
 use Rattle.cm_wit_graph.specs.Graphs.{Edges, HasEdge, Walk, LeadsToMarked, IsMarked, IsWithin}
-use Rattle.cm_names.specs.Keys.{Key, is_key}
-use Rattle.cm_wit_tables.specs.Declarations.{Declaration, Declared, brought, defined, keys_of, key_of, target}
+use Rattle.cm_names.specs.Keys.{Key}
+use Rattle.cm_wit_tables.specs.Declarations.{Declaration, Declared, brought, defined, keys_of}
 use Rattle.cm_wit_tables.specs.Tables.{defines_resource, declares_resource}
 use Rattle.cm_wit_tables.specs.TypeFaults.{IsResource, own_one, brought_one}
 use Rattle.cm_wit_tables.specs.Leading.{found, brought_target}
 use Rattle.cm_wit_tables.specs.Resources.{brought_edges}
+use Rattle.cm_wit_tables.proofs.RankLaws.{target_below}
 
 -- ---- what stands in the lists of edges
 
@@ -57,17 +58,6 @@ from_start : (ds : List Declaration) (k : ℕ) (d : Declaration) → From ds 0 k
 from_start ds k d (n, e, h) = let same : k ≡ n = omega (arith, e) in ap (slice_get ds) same ∙ h
 
 -- ---- what a key leads to is there
-
-below_by : (t : Bool) (i n k : ℕ) (rest : Option ℕ) → (rest ≡ Some k → k < i + 1 + n) → cond t (Some i) rest ≡ Some k → k < i + suc n
-below_by true i n k rest h f = let same = same_Some i k f in omega (arith, same)
-below_by false i n k rest h f = let low = h f in omega (arith, low)
-
-position_below : (p : Key → Bool) (i : ℕ) (xs : List Key) (k : ℕ) → position_from p i xs ≡ Some k → k < i + length xs
-position_below p i [] k e = absurd cc
-position_below p i (x ∷ xs) k e = below_by (p x) i (length xs) k (position_from p (i + 1) xs) (position_below p (i + 1) xs k) e
-
-target_below : (ds : List Declaration) (key : Key) (j : ℕ) → target ds key ≡ Some j → j < length ds
-target_below ds key j e = let low = position_below (is_key key.0 key.1) 0 (keys_of ds) j e in omega (arith, low, length-map ds key_of)
 
 -- ---- edges are between declarations
 

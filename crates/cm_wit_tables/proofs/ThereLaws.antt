@@ -17,16 +17,11 @@ use Rattle.cm_wit_meanings.specs.Meanings.{meaning, meanings, each_meaning, type
 use Rattle.cm_wit_tables.specs.Declarations.{Declared, Declaration, brought, defined, referred, refers, target, IsRanked, names_in, names_in_all, names_in_payload, names_in_def}
 use Rattle.cm_wit_tables.specs.Tables.{resource_of, scope_of, declared_meaning, entry_meaning, Solves, IsWhole}
 use Rattle.cm_wit_tables.specs.TypeFaults.{LeadsToType, LeadsToResource, HasTypes, AllHaveTypes, borrowed_in, borrowed_in_all, borrowed_in_payload, borrowed_in_def}
-use Rattle.cm_wit_tables.proofs.AgreeLaws.{all_left, all_right}
 use Rattle.cm_wit_tables.proofs.TableLaws.{Table, at}
 use Rattle.cm_wit_tables.proofs.RankLaws.{found_below}
 use Rattle.cm_wit_tables.proofs.ScopeResourceLaws.{resources}
-
-abbrev pub Has : {A : Type 0} → Option A → Type 0
-Has {A} o = (x : A) × (o ≡ Some x)
-
-mapped : {A B : Type 0} (g : A → B) (o : Option A) → Has o → Has (option_map g o)
-mapped g o h = (g h.0, ap (option_map g) h.1)
+use Rattle.cm_lemmas.proofs.Options.{Has, has_mapped}
+use Rattle.cm_lemmas.proofs.Lists.{all_both, all_left, all_right, got_within}
 
 module _ (s : Scope) where
   abbrev IsThere : List ℕ → Type 0
@@ -38,15 +33,15 @@ module _ (s : Scope) where
   mutual
     type_there : (t : Ty) → AllByRecursion IsThere (names_in t) → AllByRecursion IsOne (borrowed_in t) → Has (meaning s t)
     type_there (primitive p) h b = (meant.primitive_type p, refl)
-    type_there (named n) h b = mapped as_type (s n) h.0
+    type_there (named n) h b = has_mapped as_type (s n) h.0
     type_there (borrow n) h b = (cm.borrow b.0.0, ap (λ (m : Option Meaning). option_map cm.borrow (option_and_then as_resource m)) b.0.1)
-    type_there (list t) h b = mapped cm.list (meaning s t) (type_there t h b)
-    type_there (fixed_list t n) h b = mapped (λ x. cm.fixed_list x n) (meaning s t) (type_there t h b)
-    type_there (option t) h b = mapped meant.option_of (meaning s t) (type_there t h b)
-    type_there (tuple ts) h b = mapped meant.tuple_of (meanings s ts) (types_there ts h b)
+    type_there (list t) h b = has_mapped cm.list (meaning s t) (type_there t h b)
+    type_there (fixed_list t n) h b = has_mapped (λ x. cm.fixed_list x n) (meaning s t) (type_there t h b)
+    type_there (option t) h b = has_mapped meant.option_of (meaning s t) (type_there t h b)
+    type_there (tuple ts) h b = has_mapped meant.tuple_of (meanings s ts) (types_there ts h b)
     type_there plain_result h b = (meant.result_of None None, refl)
-    type_there (ok_result t) h b = mapped (λ x. meant.result_of (Some x) None) (meaning s t) (type_there t h b)
-    type_there (error_result t) h b = mapped (λ x. meant.result_of None (Some x)) (meaning s t) (type_there t h b)
+    type_there (ok_result t) h b = has_mapped (λ x. meant.result_of (Some x) None) (meaning s t) (type_there t h b)
+    type_there (error_result t) h b = has_mapped (λ x. meant.result_of None (Some x)) (meaning s t) (type_there t h b)
     type_there (result t v) h b =
         let p = type_there t (all_left IsThere (names_in t) (names_in v) h) (all_left IsOne (borrowed_in t) (borrowed_in v) b) in
         let q = type_there v (all_right IsThere (names_in t) (names_in v) h) (all_right IsOne (borrowed_in t) (borrowed_in v) b) in
@@ -68,7 +63,7 @@ module _ (s : Scope) where
 
   payload_there : (p : Option Ty) → AllByRecursion IsThere (names_in_payload p) → AllByRecursion IsOne (borrowed_in_payload p) → Has (payload_meaning s p)
   payload_there None h b = (None, refl)
-  payload_there (Some t) h b = mapped Some (meaning s t) (type_there t h b)
+  payload_there (Some t) h b = has_mapped Some (meaning s t) (type_there t h b)
 
   cases_there : (cs : List Case) → AllByRecursion IsThere (flat_map (λ c. names_in_payload c.ty) cs) → AllByRecursion IsOne (flat_map (λ c. borrowed_in_payload c.ty) cs) → Has (each_meaning (case_meaning s) cs)
   cases_there [] h b = ([], refl)
@@ -78,9 +73,9 @@ module _ (s : Scope) where
       ((c.name, p.0) ∷ q.0, rw (p.1, q.1) refl)
 
   pub def_there : (r : ResourceId) (t : TypeDef) → AllByRecursion IsThere (names_in_def t) → AllByRecursion IsOne (borrowed_in_def t) → Has (def_meaning s r t)
-  def_there r (alias t) h b = mapped value (meaning s t) (type_there t h b)
-  def_there r (record_of fs) h b = mapped value _ (mapped meant.record_of (each_meaning (typed_meaning s) fs) (fields_there fs h b))
-  def_there r (variant cs) h b = mapped value _ (mapped meant.variant_of (each_meaning (case_meaning s) cs) (cases_there cs h b))
+  def_there r (alias t) h b = has_mapped value (meaning s t) (type_there t h b)
+  def_there r (record_of fs) h b = has_mapped value _ (has_mapped meant.record_of (each_meaning (typed_meaning s) fs) (fields_there fs h b))
+  def_there r (variant cs) h b = has_mapped value _ (has_mapped meant.variant_of (each_meaning (case_meaning s) cs) (cases_there cs h b))
   def_there r (enum names) h b = (_, refl)
   def_there r (flags names) h b = (_, refl)
   def_there r (trees.resource fs) h b = (resource r, refl)
@@ -103,10 +98,6 @@ one_of : (o : Option Meaning) → Has (option_and_then as_resource o) → (r : R
 one_of None h = let e = h.1 in absurd cc
 one_of (Some (value t)) h = let e = h.1 in absurd cc
 one_of (Some (resource r)) h = (r, refl)
-
-all_both : {A : Type 0} (P : A → Type 0) (xs ys : List A) → AllByRecursion P xs → AllByRecursion P ys → AllByRecursion P (xs ++ ys)
-all_both P [] ys h g = g
-all_both P (x ∷ xs) ys h g = (h.0, all_both P xs ys h.1 g)
 
 module _ (s : Scope) where
   abbrev Both : List (List ℕ) → List (List ℕ) → Type 0
@@ -176,11 +167,6 @@ got_at table k m e = by_entry (slice_get table k) (unwrap_or-slice_get table k N
     by_entry : (o : Option (Option Meaning)) → unwrap_or o None ≡ Some m → o ≡ Some (Some m)
     by_entry None h = absurd cc
     by_entry (Some n) h = ap Some h
-
-got_within : {A : Type 0} (xs : List A) (k : ℕ) → k < length xs → Has (slice_get xs k)
-got_within [] k lt = absurd (omega (arith, lt))
-got_within (x ∷ xs) zero lt = (x, refl)
-got_within (x ∷ xs) (suc k) lt = got_within xs k (omega (arith, lt))
 
 module _ (ds : List Declaration) (table : Table) where
   -- each key that leads to a declaration leads to one of which this holds

@@ -16,6 +16,9 @@ use Rattle.std.proofs.lemmas.Slice.Eq.{bytes_eq-Decides}
 use Rattle.cm_types.specs.ExternNames.{version_suffix}
 use Rattle.cm_wit_reading.specs.Trees.{File, FileItem, interface, world, World}
 use Rattle.cm_wit_worlds.specs.Interfaces.{AreLabels, PlacedWorld, full_name, has_label, is_world, package_at, package_name, world_in, worlds, worlds_from}
+use Rattle.cm_lemmas.proofs.Bools.{and_true}
+use Rattle.cm_lemmas.proofs.Lists.{all_both}
+use Rattle.cm_lemmas.proofs.Options.{some_is}
 
 -- ---- what is taken off a text
 
@@ -69,10 +72,6 @@ Counts fs f place = option_map_or (λ p. p == place) (package_at fs (package_nam
 world_test : (fs : List File) (f : File) (text : List ℕ) (place : ℕ) (r : Option (Bor (List ℕ))) → IsMadeOf (full_name f) text r → (w : PlacedWorld) → w.place ≡ place → w.file ≡ f → is_world fs text w ≡ (has_label (option_copied r) w.world && Counts fs f place)
 world_test fs f text place r h w e g = rw (e, g) (ap (λ (b : Bool). b && Counts fs f place) (made_test f text r h w.world))
 
-and_true : (b : Bool) → (b && true) ≡ b
-and_true true = refl
-and_true false = refl
-
 -- a world of the package that counts
 pub counted : (fs : List File) (f : File) (text : List ℕ) (place : ℕ) (x : Bor (List ℕ)) → text ≡ full_name f x.now → (found : ℕ) (name : List ℕ) → name ≡ package_name f → Some found ≡ package_at fs name → found ≡ place → (w : PlacedWorld) → w.place ≡ place → w.file ≡ f → is_world fs text w ≡ has_label (Some x.now) w.world
 counted fs f text place x h found name e is at w p q =
@@ -89,15 +88,12 @@ pub record Labelled (fs : List File) (text : List ℕ) (n : ℕ) (labels : List 
 pub labelled_start : (fs : List File) (text : List ℕ) → Labelled fs text 0 []
 labelled_start fs text = record { count = refl; each = λ w lt e. absurd (omega arith) }
 
-some_same : {A : Type 0} (x y : A) → Some x ≡ Some y → x ≡ y
-some_same x y e = cc
-
 pub labelled_next : (fs : List File) (f : File) (text : List ℕ) (n : ℕ) (labels : List (Option (List ℕ))) (l : Option (List ℕ)) → slice_get fs n ≡ Some f → ((w : PlacedWorld) → w.place ≡ n → w.file ≡ f → is_world fs text w ≡ has_label l w.world) → Labelled fs text n labels → Labelled fs text (n + 1) (labels ++ l ∷ [])
 labelled_next fs f text n labels l is test old = record {
   count = length-append labels (l ∷ []) ∙ ap (λ (k : ℕ). k + 1) old.count;
   each = λ w lt e. elim (cases_eq w.place n) [
     | inl at ↦
-        let file : w.file ≡ f = some_same w.file f (sym e ∙ (ap (slice_get fs) at ∙ is)) in
+        let file : w.file ≡ f = some_is w.file f (sym e ∙ (ap (slice_get fs) at ∙ is)) in
         test w at file ∙ sym (ap (λ (o : Option (List ℕ)). has_label o w.world) (ap (λ (k : ℕ). get_or (labels ++ l ∷ []) k None) (at ∙ sym old.count) ∙ get_or-append_seam labels l [] None))
     | inr ne ↦
         let below : w.place < n = omega arith in
@@ -119,10 +115,6 @@ labelled_all view xs ys text n labels same le old = labelled_end (map view ys) t
 
 -- ---- worlds at their places
 
-both_all : {A : Type 0} (P : A → Type 0) (xs ys : List A) → AllByRecursion P xs → AllByRecursion P ys → AllByRecursion P (xs ++ ys)
-both_all P [] ys h k = k
-both_all P (x ∷ xs) ys h k = (h.0, both_all P xs ys h.1 k)
-
 -- the package of a world stands at the world's place
 abbrev Stands : List File → PlacedWorld → Type 0
 Stands fs w = slice_get fs w.place ≡ Some w.file
@@ -134,7 +126,7 @@ items_stand fs p f e (world x ∷ xs) = (e, items_stand fs p f e xs)
 
 all_stand : (fs : List File) (p : ℕ) (rest : List File) → ((k : ℕ) (f : File) → slice_get rest k ≡ Some f → slice_get fs (p + k) ≡ Some f) → AllByRecursion (Stands fs) (worlds_from p rest)
 all_stand fs p [] h = tt
-all_stand fs p (f ∷ rest) h = both_all (Stands fs) (filter_map (world_in p f) f.items) (worlds_from (p + 1) rest)
+all_stand fs p (f ∷ rest) h = all_both (Stands fs) (filter_map (world_in p f) f.items) (worlds_from (p + 1) rest)
     (items_stand fs p f (subst (λ (k : ℕ). slice_get fs k ≡ Some f) (omega arith) (h 0 f refl)) f.items)
     (all_stand fs (p + 1) rest (λ k g e. subst (λ (n : ℕ). slice_get fs n ≡ Some g) (omega arith) (h (suc k) g e)))
 

@@ -7,9 +7,7 @@ use Rattle.std.proofs.lemmas.Bool.{cases_eq}
 use Rattle.std.proofs.lemmas.Bool.Decides.{nat_tests}
 use Rattle.std.proofs.lemmas.List.Folds.{list_any-append}
 use Rattle.cm_wit_graph.specs.DepthFirst.{is_among}
-
-next_element : {A B : Type 0} (view : A → B) (xs : List A) (i : ℕ) (x : A) → i < length xs → x ≡ get_or xs i x → map view (drop i xs) ≡ view x ∷ map view (drop (i + 1) xs)
-next_element {A} view xs i x lt is = ap (map view) (drop_more xs i x lt ∙ ap (λ (a : A). a ∷ drop (i + 1) xs) (sym is))
+use Rattle.cm_lemmas.proofs.Lists.{next_element}
 
 -- These stand there, and those of the rest, which begins with the i-th, make all.
 pub record Ends {A B D : Type 0} (view : A → B) (F : ℕ → List B → List D) (xs : List A) (i : ℕ) (start out : List D) : Type 0 where

@@ -1,10 +1,8 @@
 -- Lists made part by part.
 use Rattle.std.proofs.Common.{◌≡◌, ℕ, ◌+◌, ◌<◌, ◌≤◌, List, [], ◌∷◌, ◌++◌, length, map, drop, get_or, Option, Some, None, refl, sym, ap, ◌∙◌, append_assoc, append-nil}
 use Rattle.std.specs.List.{filter_map, cons_option}
-use Rattle.std.proofs.lemmas.List.{drop_all, drop_more, map-append}
-
-next_element : {A B : Type 0} (view : A → B) (xs : List A) (i : ℕ) (x : A) → i < length xs → x ≡ get_or xs i x → map view (drop i xs) ≡ view x ∷ map view (drop (i + 1) xs)
-next_element {A} view xs i x lt is = ap (map view) (drop_more xs i x lt ∙ ap (λ (a : A). a ∷ drop (i + 1) xs) (sym is))
+use Rattle.std.proofs.lemmas.List.{drop_all, map-append}
+use Rattle.cm_lemmas.proofs.Lists.{next_element}
 
 -- These stand there, and what is found in the rest makes all.
 pub record Finds {A B C D : Type 0} (view : A → B) (h : B → Option D) (shown : C → D) (xs : List A) (i : ℕ) (start out : List C) : Type 0 where

@@ -1,5 +1,5 @@
 -- Imports in order.
-use Rattle.std.proofs.Common.{◌≡◌, ◌↔◌, ℕ, Bool, true, false, List, Option, [], not, map, get_or, subst}
+use Rattle.std.proofs.Common.{◌≡◌, ◌↔◌, ℕ, Bool, true, List, Option, [], not, map, get_or, subst}
 use Rattle.std.specs.Prelude.{filter}
 use Rattle.std.specs.Global.{Vec}
 use Rattle.std.specs.List.{flat_map}
@@ -22,9 +22,6 @@ missing_same rows rows2 named named2 b e f h = subst (λ (r : Rows). (b ≡ true
 
 pub cycle_same : (rows rows2 : Rows) (named named2 : List (Option ℕ)) (b : Bool) → rows ≡ rows2 → named ≡ named2 → (b ≡ true) ↔ HasCycle rows named → (b ≡ true) ↔ HasCycle rows2 named2
 cycle_same rows rows2 named named2 b e f h = subst (λ (r : Rows). (b ≡ true) ↔ HasCycle r named2) e (subst (λ (l : List (Option ℕ)). (b ≡ true) ↔ HasCycle rows l) f h)
-
-pub true_not : true ≡ false → ⊥
-true_not e = cc
 
 pub ruleset import_laws = (imports_are)
 

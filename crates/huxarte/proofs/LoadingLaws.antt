@@ -11,14 +11,12 @@ use Rattle.cm_machine_model.specs.declared.event.Misuse.{Misuse}
 use Rattle.cm_machine_model.specs.declared.event.Misuse.TheVariants as misuse
 use Rattle.cm_machine_model.specs.State.{are_page_counts}
 use Rattle.huxarte.specs.Loading.{AreSpelled, IsMisuse}
-
-same : {A : Type 0} (x y : A) → Some x ≡ Some y → x ≡ y
-same x y is = cc
+use Rattle.cm_lemmas.proofs.Options.{some_is}
 
 pub spelled_next : (fs : List (List ℕ)) (i : ℕ) (f : List ℕ) (cs : List (List SectionTree)) (c : List SectionTree)
     → slice_get fs i ≡ Some f → AreSpelled (take i fs) cs → Spells c f → AreSpelled (take (suc i) fs) (cs ++ c ∷ [])
 spelled_next [] i f cs c at spelled is = absurd (cc)
-spelled_next (g ∷ fs) zero f [] c at spelled is = (subst (λ x. Spells c x) (sym (same g f at)) is, tt)
+spelled_next (g ∷ fs) zero f [] c at spelled is = (subst (λ x. Spells c x) (sym (some_is g f at)) is, tt)
 spelled_next (g ∷ fs) zero f (d ∷ cs) c at spelled is = absurd spelled
 spelled_next (g ∷ fs) (suc i) f [] c at spelled is = absurd spelled
 spelled_next (g ∷ fs) (suc i) f (d ∷ cs) c at spelled is = (spelled.0, spelled_next fs i f cs c at spelled.1 is)
@@ -31,13 +29,8 @@ spelled_more now fs i d cs c below spelled is =
 
 pub all_next : {A : Type 0} (P : A → Type 0) (xs : List A) (i : ℕ) (x : A) → slice_get xs i ≡ Some x → AllByRecursion P (take i xs) → P x → AllByRecursion P (take (suc i) xs)
 all_next P [] i x at all is = absurd (cc)
-all_next P (y ∷ xs) zero x at all is = (subst P (sym (same y x at)) is, tt)
+all_next P (y ∷ xs) zero x at all is = (subst P (sym (some_is y x at)) is, tt)
 all_next P (y ∷ xs) (suc i) x at all is = (all.0, all_next P xs i x at all.1 is)
-
-pub take_next : {A : Type 0} (xs : List A) (i : ℕ) (x : A) → slice_get xs i ≡ Some x → take (suc i) xs ≡ take i xs ++ x ∷ []
-take_next [] i x at = absurd (cc)
-take_next (y ∷ xs) zero x at = ap (λ z. z ∷ []) (same y x at)
-take_next (y ∷ xs) (suc i) x at = ap (λ zs. y ∷ zs) (take_next xs i x at)
 
 -- why a set is not made, by what making it says
 pub misuse_of : (set : List Spaces) (pages : List ℕ) (m : Misuse)

@@ -4,9 +4,7 @@ use Rattle.std.proofs.lemmas.Bool.{cases_eq}
 use Rattle.cm_handles.specs.Handles.{Changes, Handles, handle_at, no_handles}
 use Rattle.cm_handles.specs.declared.handle.Handle.{Handle}
 use Rattle.cm_abi_model.specs.Lifts.{LendsBelow}
-
-some_is : {a b : Handle} → Some a ≡ Some b → a ≡ b
-some_is e = cc
+use Rattle.cm_handles.proofs.HandleLaws.{some_is}
 
 pub added : (n : ℕ) (old new : Handles) (i : ℕ) (h : Handle) → LendsBelow n old → h.lends < n → Changes old new i (Some h) → LendsBelow n new
 added n old new i h below few changes j x e = elim (cases_eq j i) [

@@ -8,8 +8,9 @@ use Rattle.cm_abi_model.specs.HandleLeaves.{borrowed_in, owned_in, stands_for}
 use Rattle.cm_abi_model.specs.CallPlaces.{call_places}
 use Rattle.cm_abi.proofs.CountLemmas.{handles_counted}
 use Rattle.cm_abi.proofs.OwnedLaws.{owned_are_taken}
-use Rattle.cm_abi.proofs.ScannedLaws.{borrowed_are_lent, parts_counted, told_counted}
+use Rattle.cm_abi.proofs.ScannedLaws.{borrowed_are_lent, parts_counted}
 use Rattle.cm_abi.proofs.laws.what_a_scan_keeps.Goals as goal
+use Rattle.cm_abi_model.proofs.TellingLaws.{as_many}
 
 pub returns-clause-owned : goal.returns-clause-owned
 returns-clause-owned c = λ giver target way types given v t s scans.
@@ -25,6 +26,6 @@ returns-clause-borrowed c = λ giver target way types given v t s scans.
 pub returns-clause-kept : goal.returns-clause-kept
 returns-clause-kept c = λ giver target way types given v t s bytes scans.
     let typed = c.what_is_denoted_can_be_lowered.ensures.typed giver way types given v bytes scans.lifts.1.denoted in
-    let told = told_counted giver target s.parts.records (call_parts way types v) (call_places giver way types given v) scans.tells in
+    let told = as_many giver target s.parts.records (call_parts way types v) (call_places giver way types given v) scans.tells in
     let handles : length s.handles ≡ handle_count v = ap length scans.handles ∙ handles_counted (tuple_of types) v typed in
     omega (arith, told, handles, parts_counted way types v typed)

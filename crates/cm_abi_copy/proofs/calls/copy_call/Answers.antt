@@ -7,8 +7,8 @@ use Rattle.cm_abi_model.specs.Ways.{way_of}
 use Rattle.cm_abi_copy.specs.Copying.{copying_of}
 use Rattle.cm_abi_copy.specs.Known.{CanBeCopied}
 use Rattle.cm_abi_copy.proofs.FlatLemmas.{few_are_flat}
-use Rattle.cm_abi_copy.proofs.SeenLayouts.{seen_head}
 use Rattle.cm_abi_copy.proofs.calls.copy_call.Goals as goal
+use Rattle.cm_layout.proofs.LayoutLemmas.{seen_head}
 
 pub copy_value-requires-clause-copied : goal.copy_value-requires-clause-copied
 copy_value-requires-clause-copied c =

@@ -19,9 +19,9 @@ use Rattle.cm_abi_model.specs.Views.{View}
 use Rattle.cm_abi_model.specs.Ways.{way_of}
 use Rattle.cm_abi_copy.specs.declared.copier.Copier.{Copier}
 use Rattle.cm_handles.specs.Handles.{indices_left}
-use Rattle.cm_abi_copy.proofs.HandedCounts.{all_numbered}
 use Rattle.cm_abi_copy.proofs.CopyLaws.{IsFrom, all_zeros, are_numbers, as_many, few_slots, fits, framed, given_is, gives, none_there, none_told, numbers_are, passed_on, received, received_serves, taken_long}
 use Rattle.cm_abi_copy.proofs.copying.copy.Goals as goal
+use Rattle.cm_abi_model.proofs.GivingLaws.{numbers_counted}
 
 holds : (b : Bool) → b ≡ true → IsTrue b
 holds true is = refl
@@ -77,7 +77,7 @@ invariant_of-kept-2 c =
       order = record {
         places = omega (arith, c.kept.invariant.order.places, records, places);
         handed = c.kept.invariant.order.handed;
-        numbers = omega (arith, ap length c.in-Ok.ensures.gives.numbers, all_numbered c.args.to c.args.table.now.handles (leaves_of c.deref.result.now), ap (λ (xs : List HandleLeaf). length (leaves_of xs)) c.deref.ensures.value);
+        numbers = omega (arith, ap length c.in-Ok.ensures.gives.numbers, numbers_counted c.args.to c.args.table.now.handles (leaves_of c.deref.result.now), ap (λ (xs : List HandleLeaf). length (leaves_of xs)) c.deref.ensures.value);
         empty = λ none. omega (arith, c.kept.invariant.order.empty none, records);
       };
     }

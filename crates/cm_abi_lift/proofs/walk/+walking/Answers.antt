@@ -11,10 +11,13 @@ use Rattle.cm_abi_load.specs.Records.{held}
 use Rattle.cm_abi_lift.specs.FlatReading.{IsFlatReadableLayout, read_flat}
 use Rattle.cm_abi_lift.specs.FlatRecords.{flat_records, flat_records_of_fields}
 use Rattle.cm_abi_load.specs.MakingLaws.{begins, stops_of}
-use Rattle.cm_abi_lift.proofs.MakingLemmas.{fields_made}
 use Rattle.cm_abi_lift.proofs.WalkLemmas.{KeepLaws, case_made, case_past, case_ready, each_begins, each_ends, each_stops, each_turns, enum_placed, fields_end, fields_stop, fields_turn, keeps_flat, list_placed, ready_next}
-use Rattle.cm_abi_lift.proofs.Seen.{seen_Enum, seen_FixedList, seen_Handle, seen_Leaf, seen_List, seen_part_width, seen_shape, seen_width}
+use Rattle.cm_abi_lift.proofs.Seen.{seen_part_width, seen_width}
 use Rattle.cm_abi_lift.proofs.walk.+walking.Goals as goal
+use Rattle.cm_abi_load.proofs.CaseLemmas.{fields_made}
+use Rattle.cm_layout.proofs.LayoutLemmas.{seen_form_Enum, seen_form_FixedList, seen_form_List}
+use Rattle.cm_layout.proofs.ShapesLaws.{seen_Handle, seen_Leaf}
+use Rattle.cm_layout.proofs.LayoutsLaws.{seen_shape}
 
 pub make_case-make_payload-requires : goal.make_case-make_payload-requires
 make_case-make_payload-requires g t c κs within =
@@ -91,20 +94,20 @@ make_flat-returns-in-Leaf g t c =
 pub make_flat-returns-in-List : goal.make_flat-returns-in-List
 make_flat-returns-in-List g t c =
     let shape_is : (layout_of c.args.layout.now).shape ≡ list_shape (layout_of c.deref.result.now).head (layout_of c.deref.result.now).shape =
-    seen_shape c.args.layout.now ∙ (ap shape_of c.in-List.is ∙ (seen_List c.in-List.element ∙ ap (λ (l : Layout). list_shape (layout_of l).head (layout_of l).shape) (sym c.deref.ensures))) in
+    seen_shape c.args.layout.now ∙ (ap shape_of c.in-List.is ∙ (seen_form_List c.in-List.element ∙ ap (λ (l : Layout). list_shape (layout_of l).head (layout_of l).shape) (sym c.deref.ensures))) in
     rw shape_is (list_placed g.M.Maker.stands g.M.Maker.keeps g.M.Maker.allocates (source_of c.args.reader.now.giver) (g.M.Maker.target c.args.reader.now.maker) (layout_of c.deref.result.now).head (layout_of c.deref.result.now).shape c.number_32-pointer-in-List.result c.number_32-count.result c.args.slots.now
     c.args.kept.now c.make_list.new.kept (state_of c.args.progress.now) (state_of c.make_list.new.progress) c.make_list.result c.number_32-pointer-in-List.ensures c.number_32-count.ensures c.make_list.ensures)
 
 pub make_flat-returns-in-FixedList : goal.make_flat-returns-in-FixedList
 make_flat-returns-in-FixedList g t c =
     let shape_is : (layout_of c.args.layout.now).shape ≡ fixed_list_shape (layout_of c.deref-in-FixedList.result.now).head (layout_of c.deref-in-FixedList.result.now).shape c.in-FixedList.length =
-    seen_shape c.args.layout.now ∙ (ap shape_of c.in-FixedList.is ∙ (seen_FixedList c.in-FixedList.element c.in-FixedList.length ∙ ap (λ (l : Layout). fixed_list_shape (layout_of l).head (layout_of l).shape c.in-FixedList.length) (sym c.deref-in-FixedList.ensures))) in
+    seen_shape c.args.layout.now ∙ (ap shape_of c.in-FixedList.is ∙ (seen_form_FixedList c.in-FixedList.element c.in-FixedList.length ∙ ap (λ (l : Layout). fixed_list_shape (layout_of l).head (layout_of l).shape c.in-FixedList.length) (sym c.deref-in-FixedList.ensures))) in
     rw shape_is c.make_fixed_list.ensures
 
 pub make_flat-returns-in-Enum : goal.make_flat-returns-in-Enum
 make_flat-returns-in-Enum g t c =
     let shape_is : (layout_of c.args.layout.now).shape ≡ cases_shape c.in-Enum.discriminant c.in-Enum.discriminant (nothings c.in-Enum.count) =
-    seen_shape c.args.layout.now ∙ (ap shape_of c.in-Enum.is ∙ seen_Enum c.in-Enum.discriminant c.in-Enum.count) in
+    seen_shape c.args.layout.now ∙ (ap shape_of c.in-Enum.is ∙ seen_form_Enum c.in-Enum.discriminant c.in-Enum.count) in
     rw shape_is (enum_placed g.M.Maker.stands g.M.Maker.keeps g.M.Maker.allocates (source_of c.args.reader.now.giver) (g.M.Maker.target c.args.reader.now.maker) c.in-Enum.discriminant c.in-Enum.count c.number_32.result c.args.slots.now
     c.args.kept.now c.args.kept.now (state_of c.args.progress.now) (state_of c.args.progress.now) c.make_enum.result c.number_32.ensures
     (c.make_enum.ensures (source_of c.args.reader.now.giver) (g.M.Maker.target c.args.reader.now.maker) (drop 1 c.args.slots.now) (state_of c.args.progress.now) c.args.kept.now))

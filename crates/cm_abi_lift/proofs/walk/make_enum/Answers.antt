@@ -1,7 +1,7 @@
 use Rattle.std.proofs.Common.{subst}
 use Rattle.cm_abi_lift.proofs.WalkLemmas.{enum_made, enum_past}
-use Rattle.cm_abi_lift.proofs.Seen.{seen_bare}
 use Rattle.cm_abi_lift.proofs.walk.make_enum.Goals as goal
+use Rattle.cm_types.proofs.ValuesLaws.{seen_bare}
 
 pub returns-then-index-count : goal.returns-then-index-count
 returns-then-index-count g c = λ w target slots s kept.

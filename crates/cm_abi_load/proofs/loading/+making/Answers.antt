@@ -14,8 +14,10 @@ use Rattle.cm_abi_load.proofs.HandleLemmas.{keeps_at}
 use Rattle.cm_abi_load.proofs.LoadLemmas.{case_past, case_readable, cases_readable, parts_readable, readable_next, step_on}
 use Rattle.cm_abi_load.specs.MakingLaws.{begins, stops_of}
 use Rattle.cm_abi_load.proofs.MakingLemmas.{each_begins, each_ends, each_stops, each_turns, fields_end, fields_stop, fields_turn, memory_wanted, stops_wanted}
-use Rattle.cm_abi_load.proofs.SeenLayouts.{seen_Cases, seen_Enum, seen_FixedList, seen_Handle, seen_Leaf, seen_List, seen_shape, seen_size}
 use Rattle.cm_abi_load.proofs.loading.+making.Goals as goal
+use Rattle.cm_layout.proofs.LayoutLemmas.{seen_form_Cases, seen_form_Enum, seen_form_FixedList, seen_form_List, seen_head}
+use Rattle.cm_layout.proofs.ShapesLaws.{seen_Handle, seen_Leaf}
+use Rattle.cm_layout.proofs.LayoutsLaws.{seen_shape}
 
 pub make_case-make_payload-requires : goal.make_case-make_payload-requires
 make_case-make_payload-requires g t c κs within =
@@ -51,7 +53,7 @@ make_each-returns-in_err-made g t c =
 
 pub make_each-loop-preserved : goal.make_each-loop-preserved
 make_each-loop-preserved g t c =
-    let step = ap (λ h. h.size) (sym (seen_size c.args.element.now)) in (
+    let step = ap (λ h. h.size) (sym (seen_head c.args.element.now)) in (
       step_on c.loop.next c.args.at c.loop.counter (layout_of c.args.element.now).head.size _ step c.loop.invariant.0,
       each_turns g.M.Maker.stands g.M.Maker.stand g.M.Maker.keeps g.met.M.Maker.keeps_both (read_at (source_of c.args.reader.now.giver) (layout_of c.args.element.now).shape) (records_at (source_of c.args.reader.now.giver) (g.M.Maker.target c.args.reader.now.maker) (layout_of c.args.element.now).shape)
           (layout_of c.args.element.now).head.size c.args.count c.loop.counter c.loop.next _ _ _ c.loop.row c.push.new.row c.in_ok-made.made c.args.kept.now c.loop.kept c.make_value.new.kept (state_of c.args.progress.now) (state_of c.loop.progress) (state_of c.make_value.new.progress)
@@ -93,7 +95,7 @@ pub make_list-returns-in_err-check_region : goal.make_list-returns-in_err-check_
 make_list-returns-in_err-check_region g t c =
     let p = err_from_is_err_and c.from_residual.result c.from_residual.ensures.1 in
     let stops : Stops c.in_err-check_region.field-0.0 (state_of c.check_region.new.progress) (region c.args.reader.now.giver.memory.now (layout_of c.args.element.now).head.align c.args.pointer (c.args.count * (layout_of c.args.element.now).head.size) (state_of c.args.progress.now)) =
-    rw (seen_size c.args.element.now) (rw (c.from.ensures, c.from-2.ensures) at c.in_err-check_region.ensures.reads) in
+    rw (seen_head c.args.element.now) (rw (c.from.ensures, c.from-2.ensures) at c.in_err-check_region.ensures.reads) in
     rw (p.1, p.2) (stops_wanted g.M.Maker.allocates (records_of_list (records_at (source_of c.args.reader.now.giver) (g.M.Maker.target c.args.reader.now.maker) (layout_of c.args.element.now).shape) (layout_of c.args.element.now).head c.args.pointer c.args.count) _ (state_of c.args.progress.now) (state_of c.check_region.new.progress) c.in_err-check_region.field-0.0
     (elements_stop (read_at (source_of c.args.reader.now.giver) (layout_of c.args.element.now).shape) c.args.reader.now.giver.memory.now (layout_of c.args.element.now).head c.args.pointer c.args.count (state_of c.args.progress.now) (state_of c.check_region.new.progress) c.in_err-check_region.field-0.0 stops)
     (list_more (source_of c.args.reader.now.giver) (g.M.Maker.target c.args.reader.now.maker) (layout_of c.args.element.now).shape c.args.reader.now.giver.memory.now (layout_of c.args.element.now).head c.args.pointer c.args.count (state_of c.args.progress.now)))
@@ -108,23 +110,23 @@ pub make_list-returns-in_err-row : goal.make_list-returns-in_err-row
 make_list-returns-in_err-row g t c =
     let p = err_from_is_err_and c.from_residual-in_err-row.result c.from_residual-in_err-row.ensures.1 in
     let region_is : region c.args.reader.now.giver.memory.now (layout_of c.args.element.now).head.align c.args.pointer (c.args.count * (layout_of c.args.element.now).head.size) (state_of c.args.progress.now) ≡ Ok (tt, state_of c.check_region.new.progress) =
-    rw (seen_size c.args.element.now) (rw (c.from.ensures, c.from-2.ensures) at c.in_ok-check_region.ensures.reads) in
+    rw (seen_head c.args.element.now) (rw (c.from.ensures, c.from-2.ensures) at c.in_ok-check_region.ensures.reads) in
     rw (p.1, p.2) (list_stops g.M.Maker.allocates (source_of c.args.reader.now.giver) (g.M.Maker.target c.args.reader.now.maker) (layout_of c.args.element.now).shape c.args.reader.now.giver.memory.now (layout_of c.args.element.now).head c.args.pointer c.args.count
     (state_of c.args.progress.now) (state_of c.check_region.new.progress) (state_of c.make_each.new.progress) c.in_err-row.field-0.0 region_is c.in_err-row.ensures)
 
 pub make_list-returns : goal.make_list-returns
 make_list-returns g t c =
     let region_is : region c.args.reader.now.giver.memory.now (layout_of c.args.element.now).head.align c.args.pointer (c.args.count * (layout_of c.args.element.now).head.size) (state_of c.args.progress.now) ≡ Ok (tt, state_of c.check_region.new.progress) =
-    rw (seen_size c.args.element.now) (rw (c.from.ensures, c.from-2.ensures) at c.in_ok-check_region.ensures.reads) in
+    rw (seen_head c.args.element.now) (rw (c.from.ensures, c.from-2.ensures) at c.in_ok-check_region.ensures.reads) in
     list_made g.M.Maker.stands g.M.Maker.stand g.M.Maker.keeps g.met.M.Maker.keeps_both (source_of c.args.reader.now.giver) (g.M.Maker.target c.args.reader.now.maker) (layout_of c.args.element.now).shape c.args.reader.now.giver.memory.now (layout_of c.args.element.now).head c.args.pointer c.args.count
     (state_of c.args.progress.now) (state_of c.check_region.new.progress) (state_of c.make_each.new.progress) c.in_ok-row.row c.list.result c.args.kept.now c.keep.new.kept c.make_each.new.kept _
-    region_is (rw (seen_size c.args.element.now, sym c.from.ensures, sym c.from-2.ensures) refl) c.in_ok-keep.ensures.ok c.in_ok-row.ensures c.list.ensures
+    region_is (rw (seen_head c.args.element.now, sym c.from.ensures, sym c.from-2.ensures) refl) c.in_ok-keep.ensures.ok c.in_ok-row.ensures c.list.ensures
 
 pub make_value-make_case-requires : goal.make_value-make_case-requires
 make_value-make_case-requires g t c κs within =
     let there : c.deref-in-Cases-2.result.now ≡ c.in-Cases.payloads.value.items = c.deref-in-Cases-2.ensures.value ∙ ap (λ v. v.items) c.deref-in-Cases.ensures in
     let shape_is : (layout_of c.args.layout.now).shape ≡ cases_shape c.in-Cases.discriminant c.in-Cases.offset (payloads_from (map payload_of c.deref-in-Cases-2.result.now)) =
-    seen_shape c.args.layout.now ∙ (ap shape_of c.in-Cases.is ∙ (seen_Cases c.in-Cases.discriminant c.in-Cases.offset c.in-Cases.payloads ∙ ap (λ ps. cases_shape c.in-Cases.discriminant c.in-Cases.offset (payloads_from (map payload_of ps))) (sym there))) in
+    seen_shape c.args.layout.now ∙ (ap shape_of c.in-Cases.is ∙ (seen_form_Cases c.in-Cases.discriminant c.in-Cases.offset c.in-Cases.payloads ∙ ap (λ ps. cases_shape c.in-Cases.discriminant c.in-Cases.offset (payloads_from (map payload_of ps))) (sym there))) in
     let can : ArePayloadsReadable (length c.args.reader.now.giver.memory.now) (c.args.at + c.in-Cases.offset) (payloads_from (map payload_of c.deref-in-Cases-2.result.now)) =
     cases_readable (length c.args.reader.now.giver.memory.now) c.args.at c.in-Cases.discriminant c.in-Cases.offset (layout_of c.args.layout.now) (payloads_from (map payload_of c.deref-in-Cases-2.result.now)) shape_is c.requires.within c.requires.laid c.requires.sized in
     (search (rules, the_lemmas), search (rules, the_lemmas, can))
@@ -137,20 +139,20 @@ make_value-returns-in-Leaf g t c =
 pub make_value-returns-in-List : goal.make_value-returns-in-List
 make_value-returns-in-List g t c =
     let shape_is : (layout_of c.args.layout.now).shape ≡ list_shape (layout_of c.deref.result.now).head (layout_of c.deref.result.now).shape =
-    seen_shape c.args.layout.now ∙ (ap shape_of c.in-List.is ∙ (seen_List c.in-List.element ∙ ap (λ (l : Layout). list_shape (layout_of l).head (layout_of l).shape) (sym c.deref.ensures))) in
+    seen_shape c.args.layout.now ∙ (ap shape_of c.in-List.is ∙ (seen_form_List c.in-List.element ∙ ap (λ (l : Layout). list_shape (layout_of l).head (layout_of l).shape) (sym c.deref.ensures))) in
     rw shape_is (list_placed g.M.Maker.stands g.M.Maker.keeps g.M.Maker.allocates (source_of c.args.reader.now.giver) (g.M.Maker.target c.args.reader.now.maker) (layout_of c.deref.result.now).head (layout_of c.deref.result.now).shape c.number_32-pointer-in-List.result c.number_32-count.result c.args.at
     c.args.kept.now c.make_list.new.kept (state_of c.args.progress.now) (state_of c.make_list.new.progress) c.make_list.result c.number_32-pointer-in-List.ensures c.number_32-count.ensures c.make_list.ensures)
 
 pub make_value-returns-in-FixedList : goal.make_value-returns-in-FixedList
 make_value-returns-in-FixedList g t c =
     let shape_is : (layout_of c.args.layout.now).shape ≡ fixed_list_shape (layout_of c.deref-in-FixedList.result.now).head (layout_of c.deref-in-FixedList.result.now).shape c.in-FixedList.length =
-    seen_shape c.args.layout.now ∙ (ap shape_of c.in-FixedList.is ∙ (seen_FixedList c.in-FixedList.element c.in-FixedList.length ∙ ap (λ (l : Layout). fixed_list_shape (layout_of l).head (layout_of l).shape c.in-FixedList.length) (sym c.deref-in-FixedList.ensures))) in
+    seen_shape c.args.layout.now ∙ (ap shape_of c.in-FixedList.is ∙ (seen_form_FixedList c.in-FixedList.element c.in-FixedList.length ∙ ap (λ (l : Layout). fixed_list_shape (layout_of l).head (layout_of l).shape c.in-FixedList.length) (sym c.deref-in-FixedList.ensures))) in
     rw shape_is c.make_fixed_list.ensures
 
 pub make_value-returns-in-Enum : goal.make_value-returns-in-Enum
 make_value-returns-in-Enum g t c =
     let shape_is : (layout_of c.args.layout.now).shape ≡ cases_shape c.in-Enum.discriminant c.in-Enum.discriminant (nothings c.in-Enum.count) =
-    seen_shape c.args.layout.now ∙ (ap shape_of c.in-Enum.is ∙ seen_Enum c.in-Enum.discriminant c.in-Enum.count) in
+    seen_shape c.args.layout.now ∙ (ap shape_of c.in-Enum.is ∙ seen_form_Enum c.in-Enum.discriminant c.in-Enum.count) in
     rw shape_is (enum_placed g.M.Maker.stands g.M.Maker.keeps g.M.Maker.allocates (source_of c.args.reader.now.giver) (g.M.Maker.target c.args.reader.now.maker) c.in-Enum.discriminant c.in-Enum.count c.number_at.result c.args.at
     c.args.kept.now c.args.kept.now (state_of c.args.progress.now) (state_of c.args.progress.now) c.make_enum.result c.number_at.ensures.value
     (c.make_enum.ensures (source_of c.args.reader.now.giver) (g.M.Maker.target c.args.reader.now.maker) (c.args.at + c.in-Enum.discriminant) (state_of c.args.progress.now) c.args.kept.now))

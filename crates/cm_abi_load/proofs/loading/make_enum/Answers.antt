@@ -1,8 +1,8 @@
 use Rattle.std.proofs.Common.{subst}
 use Rattle.cm_abi_load.proofs.CaseLemmas.{enum_made}
 use Rattle.cm_abi_load.proofs.LoadLemmas.{enum_past}
-use Rattle.cm_abi_load.proofs.Seen.{seen_bare}
 use Rattle.cm_abi_load.proofs.loading.make_enum.Goals as goal
+use Rattle.cm_types.proofs.ValuesLaws.{seen_bare}
 
 pub returns-then-index-count : goal.returns-then-index-count
 returns-then-index-count g c = λ w target p s kept.

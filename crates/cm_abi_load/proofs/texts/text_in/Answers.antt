@@ -3,8 +3,9 @@ use Rattle.std.proofs.lemmas.Bool.{false≢true}
 use Rattle.std.specs.Str.{chars}
 use Rattle.std.specs.String.{string_bytes}
 use Rattle.cm_text.specs.Text.{IsText}
-use Rattle.cm_abi_load.proofs.TextLemmas.{same_chars, utf8_of}
+use Rattle.cm_abi_load.proofs.TextLemmas.{utf8_of}
 use Rattle.cm_abi_load.proofs.texts.text_in.Goals as goal
+use Rattle.cm_text.proofs.Utf8Laws.{same_chars}
 
 pub unreachable-requires : goal.unreachable-requires
 unreachable-requires g c = false≢true (c.in-Err.ensures.succeeds (utf8_of c.in-Ok.ensures.ok.0 c.in-Ok.text.items c.in-Ok.ensures.ok.2))

@@ -6,8 +6,8 @@ use Rattle.cm_types.specs.ValueTrees.{values_of}
 use Rattle.cm_abi_model.specs.Stores.{poke}
 use Rattle.cm_abi_store.specs.Storing.{given_of}
 use Rattle.cm_abi_lower.proofs.WalkLemmas.{tuple_shape}
-use Rattle.cm_abi_lower.proofs.SeenLayouts.{seen_head}
 use Rattle.cm_abi_lower.proofs.calls.store_call.Goals as goal
+use Rattle.cm_layout.proofs.LayoutLemmas.{seen_head}
 
 pub store_tuple-requires-clause-tuple : goal.store_tuple-requires-clause-tuple
 store_tuple-requires-clause-tuple c = tuple_shape (layout_of c.args.layout.now) c.requires.1 c.requires.3

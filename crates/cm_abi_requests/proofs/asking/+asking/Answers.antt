@@ -8,8 +8,9 @@ use Rattle.cm_types.specs.ValueTrees.{value_of, values_of}
 use Rattle.cm_abi_model.specs.Parts.{parts_each}
 use Rattle.cm_abi_requests.specs.Asking.{AreSmall, Asking, ask_by, ask_part, asking_of, parts_by, parts_by_fields, parts_by_payload}
 use Rattle.cm_abi_requests.proofs.AskingLemmas.{case_past, case_there, count_values, each_next, fields_next, list_part, small_parts, turn}
-use Rattle.cm_abi_requests.proofs.SeenLayouts.{enum_has_none, seen_head}
+use Rattle.cm_abi_requests.proofs.SeenLayouts.{enum_has_none}
 use Rattle.cm_abi_requests.proofs.asking.+asking.Goals as goal
+use Rattle.cm_layout.proofs.LayoutLemmas.{seen_head}
 
 pub ask-returns-in-Enum-default : goal.ask-returns-in-Enum-default
 ask-returns-in-Enum-default t c = rw (enum_has_none c.args.layout.now _ _ (value_of c.args.value.now) c.in-Enum-default.is-0) refl

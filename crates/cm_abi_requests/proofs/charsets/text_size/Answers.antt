@@ -1,8 +1,9 @@
 use Rattle.std.proofs.Common.{◌≡◌, ◌∙◌, length, rules}
 use Rattle.std.proofs.lemmas.Str.{chars_from_encodes}
 use Rattle.std.specs.Str.{chars}
-use Rattle.cm_abi_requests.proofs.TextSizes.{size_1, size_8}
+use Rattle.cm_abi_requests.proofs.TextSizes.{size_1}
 use Rattle.cm_abi_requests.proofs.charsets.text_size.Goals as goal
+use Rattle.cm_text.proofs.Utf8Laws.{size_8}
 
 pub returns-in-Utf8 : goal.returns-in-Utf8
 returns-in-Utf8 c = rw c.in-Utf8.is (size_8 c.args.text.now c.utf8.text)

@@ -8,8 +8,8 @@ use Rattle.cm_abi_model.specs.Ways.{way_of}
 use Rattle.cm_abi_requests.specs.Asking.{ask_by, asking_of, parts_by, tuple_request}
 use Rattle.cm_abi_requests.proofs.AlignedRequests.{requests_aligned}
 use Rattle.cm_abi_requests.proofs.AskingLemmas.{all_requests, asking, small_by_layout}
-use Rattle.cm_abi_requests.proofs.SeenLayouts.{seen_head}
 use Rattle.cm_abi_requests.proofs.request_lists.requests.Goals as goal
+use Rattle.cm_layout.proofs.LayoutLemmas.{seen_head}
 
 pub ask_values-requires : goal.ask_values-requires
 ask_values-requires c =

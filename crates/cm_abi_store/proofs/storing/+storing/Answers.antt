@@ -12,16 +12,17 @@ use Rattle.cm_abi_model.specs.Stores.{place_of, pointer_bytes, poke, store_each}
 use Rattle.cm_abi_store.specs.Fitting.{PayloadLies}
 use Rattle.cm_abi_store.specs.Storing.{given_of, stored_by}
 use Rattle.cm_abi_store.specs.Sources.{IsCarriedReady, field_before}
-use Rattle.cm_abi_store.proofs.SeenLayouts.{seen_Cases, seen_Record, seen_head, seen_shape}
 use Rattle.cm_abi_store.specs.WalkLaws.{case_handles, case_parts, next_handles, next_parts, next_stored, parts_next, payload_is, payload_past, poke_both, row_inside, step_on}
 use Rattle.cm_abi_store.proofs.WalkLemmas.{PartsLie, case_both, field_stored, parts_lie, payload_lies}
 use Rattle.cm_abi_store.proofs.storing.+storing.Goals as goal
+use Rattle.cm_layout.proofs.LayoutLemmas.{seen_form_Cases, seen_form_Fields, seen_head}
+use Rattle.cm_layout.proofs.LayoutsLaws.{seen_shape}
 
 pub store_value-store_record-requires : goal.store_value-store_record-requires
 store_value-store_record-requires g t c κs within =
     let parts = c.deref-in-Fields-2.result.now in
     let shape_is : (layout_of c.args.layout.now).shape ≡ fields_shape (parts_from (map part_of parts)) =
-    seen_shape c.args.layout.now ∙ (ap shape_of c.in-Fields.is ∙ (seen_Record c.in-Fields.parts ∙ ap (λ (ps : List Part). fields_shape (parts_from (map part_of ps))) (search (rules, the_lemmas)))) in
+    seen_shape c.args.layout.now ∙ (ap shape_of c.in-Fields.is ∙ (seen_form_Fields c.in-Fields.parts ∙ ap (λ (ps : List Part). fields_shape (parts_from (map part_of ps))) (search (rules, the_lemmas)))) in
     let ready : g.S.ValueSource.ready c.args.source (length c.args.memory.now) (given_of c.args.to.now) (layout_of c.args.layout.now).head (fields_shape (parts_from (map part_of parts))) c.args.next.now.part c.args.next.now.handle = rw shape_is at c.requires.ready in
     (search (rules, the_lemmas), search (rules, the_lemmas, ready))
 
@@ -31,7 +32,7 @@ store_value-store_case-requires g t c κs within =
     let d = c.in-Cases.discriminant in
     let o = c.in-Cases.offset in
     let shape_is : (layout_of c.args.layout.now).shape ≡ cases_shape d o (payloads_from (map payload_of payloads)) =
-    seen_shape c.args.layout.now ∙ (ap shape_of c.in-Cases.is ∙ (seen_Cases d o c.in-Cases.payloads ∙ ap (λ (ps : List Payload). cases_shape d o (payloads_from (map payload_of ps))) (search (rules, the_lemmas)))) in
+    seen_shape c.args.layout.now ∙ (ap shape_of c.in-Cases.is ∙ (seen_form_Cases d o c.in-Cases.payloads ∙ ap (λ (ps : List Payload). cases_shape d o (payloads_from (map payload_of ps))) (search (rules, the_lemmas)))) in
     let ready : g.S.ValueSource.ready c.args.source (length c.args.memory.now) (given_of c.args.to.now) (layout_of c.args.layout.now).head (cases_shape d o (payloads_from (map payload_of payloads))) c.args.next.now.part c.args.next.now.handle = rw shape_is at c.requires.ready in
     (search (rules, the_lemmas), search (rules, the_lemmas, ready))
 

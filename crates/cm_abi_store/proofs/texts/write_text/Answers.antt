@@ -2,8 +2,8 @@ use Rattle.std.proofs.Common.{◌∙◌, ap, sym, length}
 use Rattle.std.specs.Str.{chars}
 use Rattle.cm_abi_model.specs.Requests.{stored_charset, text_bytes}
 use Rattle.cm_abi_model.specs.Stores.{placed, poke}
-use Rattle.cm_abi_store.proofs.TextLemmas.{text_of}
 use Rattle.cm_abi_store.proofs.texts.write_text.Goals as goal
+use Rattle.cm_text.proofs.Utf8Laws.{text_of}
 
 pub write_utf8-requires : goal.write_utf8-requires
 write_utf8-requires c =

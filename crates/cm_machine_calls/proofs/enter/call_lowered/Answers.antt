@@ -4,8 +4,8 @@ use Rattle.cm_machine_model.specs.State.{is_closed}
 use Rattle.cm_machine_model.specs.Step.{CallsLowered, PassesArguments}
 use Rattle.cm_machine_parts.specs.States.{state_of}
 use Rattle.cm_machine_calls.proofs.Results.{not_true}
-use Rattle.cm_machine_calls.proofs.Rows.{row_more}
 use Rattle.cm_machine_calls.proofs.enter.call_lowered.Goals as goal
+use Rattle.cm_machine_parts.proofs.RowsLaws.{meets_by}
 
 pub returns-in_default-clause-row : goal.returns-in_default-clause-row
 returns-in_default-clause-row c = λ plan l called. inl (c.in_default.ensures.none l called.link_is, (refl, refl))
@@ -52,7 +52,7 @@ returns-clause-row c = λ plan l called.
     let opened : is_closed s l.instance ≡ false = ap (is_closed s) (sym called.link_is.instance_is) ∙ sym c.is_closed.ensures ∙ c.if-is_closed.false in
     let leaves = c.may_leave.ensures.0 (cc) in
     let room = c.has_room.ensures.0 (cc) in
-    row_more (PassesArguments s (actor c.args.top.now) c.args.func l c.args.args.now) (CallsLowered s c.args.top.now c.args.func l c.args.args.now) c.pass_arguments.result c.pass_arguments.new.values
+    meets_by (PassesArguments s (actor c.args.top.now) c.args.func l c.args.args.now) (CallsLowered s c.args.top.now c.args.func l c.args.args.now) c.pass_arguments.result c.pass_arguments.new.values
     (state_of c.pass_arguments.new.state) (λ e st passes. inr (x.0, inr (leaves, inr (opened, inr (room, passes)))))
     (c.pass_arguments.ensures.row plan l c.args.args.now (record { called = called; leaves = leaves; room = room; given = record { shape = x.0; slots_are = x.1; place_is = x.2 } }))
 

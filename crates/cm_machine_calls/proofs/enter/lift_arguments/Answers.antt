@@ -27,9 +27,10 @@ use Rattle.cm_machine_calls.specs.Calling.{HasArguments}
 use Rattle.cm_machine_calls.specs.Going.{IsUnderWay, passage_now}
 use Rattle.cm_machine_calls.specs.Lifting.{StopsLift, passage_in}
 use Rattle.cm_machine_calls.proofs.CallLaws.{args_stop, args_under, call_is, frame_is, lends_refused, lifted_at, none_to_come, with_call}
-use Rattle.cm_machine_calls.proofs.Standing.{few_slots, has_funcs, idle_at, lends_below, not_passing, some_stand}
-use Rattle.cm_machine_calls.proofs.Tables.{handles_length}
+use Rattle.cm_machine_calls.proofs.Standing.{few_slots, has_funcs, idle_at, lends_below, not_passing}
 use Rattle.cm_machine_calls.proofs.enter.lift_arguments.Goals as goal
+use Rattle.cm_machine_parts.proofs.Tables.{length_handles}
+use Rattle.cm_machine_model.proofs.StackLaws.{some_stand}
 
 pub lift_flat_values-requires-clause-link : goal.lift_flat_values-requires-clause-link
 lift_flat_values-requires-clause-link c = (c.requires.may.1, c.requires.may.3.called.link_is)
@@ -38,7 +39,7 @@ pub lift_flat_values-requires-clause-table : goal.lift_flat_values-requires-clau
 lift_flat_values-requires-clause-table c =
     let x = c.requires.may in
     let s = c.args.state.now in
-    omega (arith, c.frames_have_instances.ensures.acts x.0 (state_of s) c.args.top.now x.3.called.runs.valid x.3.called.on_top, handles_length s.tables.items, c.actor-caller.ensures)
+    omega (arith, c.frames_have_instances.ensures.acts x.0 (state_of s) c.args.top.now x.3.called.runs.valid x.3.called.on_top, length_handles s.tables.items, c.actor-caller.ensures)
 
 pub lift_flat_values-requires-clause-memory : goal.lift_flat_values-requires-clause-memory
 lift_flat_values-requires-clause-memory c =

@@ -19,11 +19,12 @@ use Rattle.cm_machine_parts.specs.States.{state_of}
 use Rattle.cm_machine_parts.specs.declared.passing.Passing.{Passing}
 use Rattle.cm_machine_calls.specs.Going.{passage_now}
 use Rattle.cm_machine_calls.specs.Lifting.{IsLifted, StopsLift, passage_in}
-use Rattle.cm_machine_calls.proofs.Lifted.{nothing_lent}
 use Rattle.cm_machine_calls.proofs.ReturnLaws.{result_state, result_under}
-use Rattle.cm_machine_calls.proofs.Standing.{lends_below, link_of, not_passing, passes_at, some_stand, top_call, top_high}
-use Rattle.cm_machine_calls.proofs.Tables.{handles_length}
+use Rattle.cm_machine_calls.proofs.Standing.{lends_below, link_of, not_passing, passes_at, top_call, top_high}
 use Rattle.cm_machine_calls.proofs.exit.lift_result.Goals as goal
+use Rattle.cm_machine_parts.proofs.Tables.{length_handles}
+use Rattle.cm_machine_valid.proofs.LentLeaves.{none_lent}
+use Rattle.cm_machine_model.proofs.StackLaws.{some_stand}
 
 pub lift_flat_values-requires-clause-link : goal.lift_flat_values-requires-clause-link
 lift_flat_values-requires-clause-link c = (c.requires.returned.1, c.requires.returned.2.link_is)
@@ -34,7 +35,7 @@ lift_flat_values-requires-clause-table c =
     let y = x.2 in
     let s = c.args.state.now in
     let top = top_call x.0 x.1 c.args.call.now s.stack.frames y.top y.runs.valid.stack y.on_top y.is_call y.reaches in
-    omega (arith, top.there, y.link_is.instance_is, y.runs.valid.tables, handles_length s.tables.items)
+    omega (arith, top.there, y.link_is.instance_is, y.runs.valid.tables, length_handles s.tables.items)
 
 pub lift_flat_values-requires-clause-memory : goal.lift_flat_values-requires-clause-memory
 lift_flat_values-requires-clause-memory c =
@@ -85,7 +86,7 @@ returns-clause-lifts c = λ plan l y.
     let ms = met w results (types_of l results) given x.v in
     let link = link_of plan call.caller call.func l y.runs.valid.linked y.reaches in
     let top = top_call plan l call s.stack y.top y.runs.valid.stack y.on_top y.is_call y.reaches in
-    let none = nothing_lent w.table ms (leaves_in (tuple_of (types_of l results)) x.v) (c.what_is_met_is_the_values_handles.ensures w results (types_of l results) given x.v x.denoted) (link.none_lent_back x.v) in
+    let none = none_lent w.table ms (leaves_in (tuple_of (types_of l results)) x.v) (c.what_is_met_is_the_values_handles.ensures w results (types_of l results) given x.v x.denoted) (link.none_lent_back x.v) in
     let same : passage_now mid ≡ passage_now new = sym (ap (λ (p : Passing). passage_in p.slots p.scan) c.put_phase.ensures.passing) in
     let here : state_of new ≡ after_lift_of_result s l call given x.v (passage_now mid) = c.put_phase.ensures.phase l y.link_is ∙ result_state s (state_of mid) l call (top_place s) ms (passage_now mid) x.is none in
     let is : state_of new ≡ after_lift_of_result s l call given x.v (passage_now new) = subst (λ (p : Passage). state_of new ≡ after_lift_of_result s l call given x.v p) same here in

@@ -12,8 +12,8 @@ use Rattle.cm_machine_parts.specs.declared.link.CallTypes.{CallTypes}
 use Rattle.cm_machine_calls.specs.Calling.{AnswersAt}
 use Rattle.cm_machine_calls.specs.Going.{IsUnderWay, passage_now}
 use Rattle.cm_machine_calls.proofs.ReturnLaws.{result_stop, row_flat, row_placed}
-use Rattle.cm_machine_calls.proofs.Rows.{row_more}
 use Rattle.cm_machine_calls.proofs.exit.pass_result.Goals as goal
+use Rattle.cm_machine_parts.proofs.RowsLaws.{meets_by}
 
 pub returns-in-Err-clause-row : goal.returns-in-Err-clause-row
 returns-in-Err-clause-row c = λ plan l y.
@@ -50,7 +50,7 @@ returns-then-deref-clause-row c = λ plan l y.
     let r = spilled_request (types_of l results) in
     let next : slice_get (asked_for l results (passage_now mid) h.v) 0 ≡ Some r =
     c.each_part_is_asked_for.ensures.tuple results (types_of l results) h.v (giver_side l results).encoding (receiver_side l results).encoding (tags_of (passage_now mid).records) spilled in
-    row_more (AnswersAt (state_of mid) l results c.in_results-placing.result (passage_now mid) h.v [] r call.result_at) (ReturnsResult (state_of s) l call c.args.given.now) c.answer.result c.answer.new.values
+    meets_by (AnswersAt (state_of mid) l results c.in_results-placing.result (passage_now mid) h.v [] r call.result_at) (ReturnsResult (state_of s) l call c.args.given.now) c.answer.result c.answer.new.values
     (state_of c.answer.new.state)
     (λ e st a. row_placed plan s mid l call c.args.given.now h r e st spilled next
     (subst (λ (z : Call). AnswersAt (state_of mid) l results z (passage_now mid) h.v [] r call.result_at e st) c.in_results-placing.ensures a))
@@ -83,7 +83,7 @@ returns-else-deref-clause-row c = λ plan l y.
     let call = c.args.call.now in
     let h = c.in-Ok.ensures.lifts plan l y in
     let flat : is_spilled results (types_of l results) ≡ false = sym y.link_is.pointer_is ∙ ap (λ (t : CallTypes). t.has_pointer) (sym c.deref.ensures) ∙ c.if-deref.false in
-    row_more (GoesOn (state_of mid) (top_place (state_of mid)) l results c.in_results-placing.result (passage_now mid) h.v []) (ReturnsResult (state_of s) l call c.args.given.now) c.go_on.result
+    meets_by (GoesOn (state_of mid) (top_place (state_of mid)) l results c.in_results-placing.result (passage_now mid) h.v []) (ReturnsResult (state_of s) l call c.args.given.now) c.go_on.result
     c.go_on.new.values (state_of c.go_on.new.state)
     (λ e st g. row_flat plan s mid l call c.args.given.now h e st flat
     (subst (λ (z : Call). GoesOn (state_of mid) (top_place (state_of mid)) l results z (passage_now mid) h.v [] e st) c.in_results-placing.ensures g))

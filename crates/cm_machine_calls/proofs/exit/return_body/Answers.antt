@@ -8,11 +8,12 @@ use Rattle.cm_machine_model.specs.Plan.{types_of}
 use Rattle.cm_machine_model.specs.State.{table_at}
 use Rattle.cm_machine_model.specs.Step.{AreOf, HasNoBorrows, ReturnsIn, ReturnsResult, top_place}
 use Rattle.cm_machine_parts.specs.States.{state_of}
-use Rattle.cm_machine_calls.proofs.GoingLaws.{few_kinds}
 use Rattle.cm_machine_calls.proofs.Results.{not_true}
-use Rattle.cm_machine_calls.proofs.Rows.{row_more}
-use Rattle.cm_machine_calls.proofs.Standing.{some_stand, top_call}
+use Rattle.cm_machine_calls.proofs.Standing.{top_call}
 use Rattle.cm_machine_calls.proofs.exit.return_body.Goals as goal
+use Rattle.cm_abi_model.proofs.ReceivesLaws.{few_kinds}
+use Rattle.cm_machine_parts.proofs.RowsLaws.{meets_by}
+use Rattle.cm_machine_model.proofs.StackLaws.{some_stand}
 
 pub returns-then-not-are_of-clause-row : goal.returns-then-not-are_of-clause-row
 returns-then-not-are_of-clause-row c = λ plan l y.
@@ -52,5 +53,5 @@ returns-clause-row c = λ plan l y.
     let are = subst (λ (ks : List CoreKind). AreOf ks c.args.given.now) (c.kinds_of.ensures l y.link_is) (c.are_of.ensures.0 (cc)) in
     let top = top_call plan l c.args.call.now s.stack.frames y.top y.runs.valid.stack y.on_top y.is_call y.reaches in
     let none = subst (λ (n : ℕ). HasNoBorrows (table_at (state_of s).tables n) (top_place (state_of s))) top.instance ((c.has_borrows.ensures y.top y.on_top y.runs.kept.counted).0 c.if-has_borrows.false) in
-    row_more (ReturnsResult (state_of s) l c.args.call.now c.args.given.now) (ReturnsIn phase.Body (state_of s) l c.args.call.now c.args.given.now) c.pass_result.result c.pass_result.new.values
+    meets_by (ReturnsResult (state_of s) l c.args.call.now c.args.given.now) (ReturnsIn phase.Body (state_of s) l c.args.call.now c.args.given.now) c.pass_result.result c.pass_result.new.values
     (state_of c.pass_result.new.state) (λ e st x. inr (are, inr (none, x))) (c.pass_result.ensures.row plan l y)

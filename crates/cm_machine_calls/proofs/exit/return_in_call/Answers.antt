@@ -3,8 +3,8 @@ use Rattle.cm_machine_model.specs.declared.frame.Phase.{Phase}
 use Rattle.cm_machine_model.specs.Step.{ReturnsIn}
 use Rattle.cm_machine_parts.specs.Rows.{MeetsRow}
 use Rattle.cm_machine_parts.specs.States.{state_of}
-use Rattle.cm_machine_calls.proofs.Standing.{some_stand}
 use Rattle.cm_machine_calls.proofs.exit.return_in_call.Goals as goal
+use Rattle.cm_machine_model.proofs.StackLaws.{some_stand}
 
 pub returns-in-Arguments-clause-row : goal.returns-in-Arguments-clause-row
 returns-in-Arguments-clause-row c = λ plan l y.

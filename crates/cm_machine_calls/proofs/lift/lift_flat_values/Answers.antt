@@ -15,12 +15,14 @@ use Rattle.cm_machine_parts.specs.States.{handles_in, state_of}
 use Rattle.cm_machine_calls.specs.Lifting.{passage_in}
 use Rattle.cm_machine_calls.proofs.Pairs.{at_same}
 use Rattle.cm_machine_calls.proofs.Scans.{lifted_same, scanned_is}
-use Rattle.cm_machine_calls.proofs.Tables.{handles_at, handles_length, none_lifted, set_handles}
+use Rattle.cm_machine_calls.proofs.Tables.{none_lifted}
 use Rattle.cm_machine_calls.proofs.lift.lift_flat_values.Goals as goal
+use Rattle.cm_machine_parts.proofs.Standing.{table_read}
+use Rattle.cm_machine_parts.proofs.Tables.{length_handles, handles_set}
 
 pub scan_flat_values-requires-clause-lends : goal.scan_flat_values-requires-clause-lends
 scan_flat_values-requires-clause-lends c =
-    subst (LendsBelow (2 ^ 100)) (handles_at c.args.state.now.tables.items c.args.giver c.index_mut-table.result.now c.requires.table c.index_mut-table.ensures.value) c.requires.lends
+    subst (LendsBelow (2 ^ 100)) (table_read c.args.state.now.tables.items c.args.giver c.index_mut-table.result.now c.requires.table c.index_mut-table.ensures.value) c.requires.lends
 
 pub returns-in-Err-clause-lifts : goal.returns-in-Err-clause-lifts
 returns-in-Err-clause-lifts c = λ l call is.
@@ -29,14 +31,14 @@ returns-in-Err-clause-lifts c = λ l call is.
     let given : IsGivenBy w c.in-Some.memory.now c.index_mut-table.result.now.handles source =
     record {
       memory_is = sym (ap (λ o. unwrap_or o []) c.in-Some.ensures);
-      table_is = handles_at c.args.state.now.tables.items c.args.giver c.index_mut-table.result.now c.requires.table c.index_mut-table.ensures.value;
+      table_is = table_read c.args.state.now.tables.items c.args.giver c.index_mut-table.result.now c.requires.table c.index_mut-table.ensures.value;
       encoding_is = refl;
     } in
     c.in-Err.ensures.looks l w is given
 
 pub returns-in-Err-clause-unchanged : goal.returns-in-Err-clause-unchanged
 returns-in-Err-clause-unchanged c =
-    let table = handles_at c.args.state.now.tables.items c.args.giver c.index_mut-table.result.now c.requires.table c.index_mut-table.ensures.value in
+    let table = table_read c.args.state.now.tables.items c.args.giver c.index_mut-table.result.now c.requires.table c.index_mut-table.ensures.value in
     none_lifted c.args.state.now c.args.giver c.scan_flat_values.new.table c.scan_flat_values.new.kept (ap (λ (t : TableState). t.handles) c.in-Err.ensures.unchanged ∙ sym table) c.requires.idle c.in-Err.ensures.none
 
 pub returns-clause-lifts : goal.returns-clause-lifts
@@ -44,14 +46,14 @@ returns-clause-lifts c = λ l call is.
     let way = way_of c.args.way in
     let source = (giver_side l way).encoding in
     let w = view_of (state_of c.args.state.now) c.args.giver source call in
-    let table = handles_at c.args.state.now.tables.items c.args.giver c.index_mut-table.result.now c.requires.table c.index_mut-table.ensures.value in
+    let table = table_read c.args.state.now.tables.items c.args.giver c.index_mut-table.result.now c.requires.table c.index_mut-table.ensures.value in
     let given : IsGivenBy w c.in-Some.memory.now c.index_mut-table.result.now.handles source =
     record { memory_is = sym (ap (λ o. unwrap_or o []) c.in-Some.ensures); table_is = table; encoding_is = refl } in
     let seen = c.in-Ok.ensures.looks l w is given in
     let ms = met w way (types_of l way) c.args.slots.now seen.v in
     let slots : c.args.slots.now ≡ c.from_slice-state.result = sym c.from_slice-state.ensures in
     let tables : handles_in (slice_set c.args.state.now.tables.items c.args.giver c.scan_flat_values.new.table) ≡ slice_set (handles_in c.args.state.now.tables.items) c.args.giver c.scan_flat_values.new.table.handles =
-    set_handles c.args.state.now.tables.items c.args.giver c.scan_flat_values.new.table in
+    handles_set c.args.state.now.tables.items c.args.giver c.scan_flat_values.new.table in
     record {
       v = seen.v;
       denoted = seen.scans.lifts.1.denoted;
@@ -66,7 +68,7 @@ returns-clause-lifts c = λ l call is.
           (tables ∙ ap (slice_set (handles_in c.args.state.now.tables.items) c.args.giver) seen.scans.lifts.1.table)
           (c.put_owners.ensures ∙ ap (λ (x : List HandleLeaf). with_places (places.Travelling c.args.place) (owned_in x) c.args.state.now.owners.items) c.handles.ensures);
       lends_are = seen.scans.lifts.1.lends;
-      sound = subst IsSoundHandles (sym (ap (λ (x : List Handles). table_at x c.args.giver) tables ∙ at_same (handles_in c.args.state.now.tables.items) c.args.giver c.scan_flat_values.new.table.handles no_handles (omega (arith, c.requires.table, handles_length c.args.state.now.tables.items)))) seen.sound;
+      sound = subst IsSoundHandles (sym (ap (λ (x : List Handles). table_at x c.args.giver) tables ∙ at_same (handles_in c.args.state.now.tables.items) c.args.giver c.scan_flat_values.new.table.handles no_handles (omega (arith, c.requires.table, length_handles c.args.state.now.tables.items)))) seen.sound;
       some = seen.some;
     }
 
@@ -78,7 +80,7 @@ returns-clause-encoded c = λ l is.
     let given : IsGivenBy w c.in-Some.memory.now c.index_mut-table.result.now.handles source =
     record {
       memory_is = sym (ap (λ o. unwrap_or o []) c.in-Some.ensures);
-      table_is = handles_at c.args.state.now.tables.items c.args.giver c.index_mut-table.result.now c.requires.table c.index_mut-table.ensures.value;
+      table_is = table_read c.args.state.now.tables.items c.args.giver c.index_mut-table.result.now c.requires.table c.index_mut-table.ensures.value;
       encoding_is = refl;
     } in
     let seen = c.in-Ok.ensures.looks l w is given in

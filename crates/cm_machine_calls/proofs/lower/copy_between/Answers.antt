@@ -7,9 +7,10 @@ use Rattle.cm_abi_model.specs.Ways.{way_of}
 use Rattle.cm_machine_model.specs.Memories.{memory_at}
 use Rattle.cm_abi_copy.specs.Copies.{IsCopied}
 use Rattle.cm_machine_calls.specs.Handing.{CanCopy, IsCopiedIn}
-use Rattle.cm_machine_calls.proofs.Pairs.{set_again, set_back, at_other}
+use Rattle.cm_machine_calls.proofs.Pairs.{set_back, at_other}
 use Rattle.cm_machine_calls.proofs.Results.{match_more, err_more}
 use Rattle.cm_machine_calls.proofs.lower.copy_between.Goals as goal
+use Rattle.cm_lemmas.proofs.Lists.{set_again}
 
 pub returns-clause-copied : goal.returns-clause-copied
 returns-clause-copied c = λ view answers types v can.

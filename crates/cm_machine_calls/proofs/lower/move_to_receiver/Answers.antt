@@ -17,11 +17,14 @@ use Rattle.cm_machine_parts.specs.States.{handles_in, state_of}
 use Rattle.cm_machine_calls.specs.Going.{passage_now}
 use Rattle.cm_abi_copy.specs.Copies.{IsCopied}
 use Rattle.cm_machine_calls.specs.Handing.{StopsHanding}
-use Rattle.cm_machine_calls.proofs.GoingLaws.{can_copy, few_kinds, giver_there, handed_same, receiver_there, sides_apart}
+use Rattle.cm_machine_calls.proofs.GoingLaws.{can_copy, giver_there, handed_same, receiver_there, sides_apart}
 use Rattle.cm_machine_calls.proofs.HandingLaws.{all_are, apart_is, handed_is, numbers_are, room_is, stopped, table_is}
 use Rattle.cm_machine_calls.proofs.Pairs.{at_same}
-use Rattle.cm_machine_calls.proofs.Tables.{handles_at, handles_length, none_when, set_handles, unchanged_by}
+use Rattle.cm_machine_calls.proofs.Tables.{none_when, unchanged_by}
 use Rattle.cm_machine_calls.proofs.lower.move_to_receiver.Goals as goal
+use Rattle.cm_abi_model.proofs.ReceivesLaws.{few_kinds}
+use Rattle.cm_machine_parts.proofs.Standing.{table_read}
+use Rattle.cm_machine_parts.proofs.Tables.{length_handles, handles_set}
 
 pub index_mut-table-requires : goal.index_mut-table-requires
 index_mut-table-requires c =
@@ -71,7 +74,7 @@ returns-in-Err-clause-unchanged c =
     let state = c.args.state.now in
     let i = c.args.to.instance in
     let there : i < length state.tables.items = omega (arith, receiver_there x.0 x.1 (way_of c.args.way) x.2 (length h.on.under.below) h.on.under.link h.on.under.caller, ap (λ (r : Receiver). r.instance) h.to_is, h.on.under.tables) in
-    let table = handles_at state.tables.items i c.index_mut-table.result.now there c.index_mut-table.ensures.value in
+    let table = table_read state.tables.items i c.index_mut-table.result.now there c.index_mut-table.ensures.value in
     unchanged_by state c.copy_between.new.memories i c.copy_between.new.table c.copy_between.new.kept c.copy_between.new.kept.numbers c.in-Err.ensures.memories_stay (c.in-Err.ensures.table_stays ∙ sym table) c.copy_between.ensures.kept_stays
 
 pub returns-in-Err-clause-moves : goal.returns-in-Err-clause-moves
@@ -82,7 +85,7 @@ returns-in-Err-clause-moves c = λ plan l call v answers is h.
     let to = c.args.to in
     let scan = state.passing.scan in
     let there : to.instance < length state.tables.items = omega (arith, receiver_there plan l way call (length h.on.under.below) h.on.under.link h.on.under.caller, ap (λ (r : Receiver). r.instance) h.to_is, h.on.under.tables) in
-    let table = handles_at state.tables.items to.instance c.index_mut-table.result.now there c.index_mut-table.ensures.value in
+    let table = table_read state.tables.items to.instance c.index_mut-table.result.now there c.index_mut-table.ensures.value in
     let fault : IsFaultOfCopying scan.parts answers to (table_at s.tables to.instance) (handles_of_values (types_of l way) v) c.in-Err.fault =
     subst (λ (t : Handles). IsFaultOfCopying scan.parts answers to t (handles_of_values (types_of l way) v) c.in-Err.fault) (sym table) (c.in-Err.ensures.copied h.on.under.carried.view answers (types_of l way) v (can_copy c.records_ask_for_parts.ensures.call plan state l (record { way = c.args.way; layout = c.layout_of-layout.result; slots = c.as_slice.result }) call v answers c.args.giver to c.kinds_of-kinds.result.now h (c.layout_of-layout.ensures l is) c.as_slice.ensures (c.kinds_of-kinds.ensures l is))) in
     let all = all_are c.records_ask_for_parts.ensures.call (memory_at s.memories (giver_of way l call)) l way state.passing.slots scan v h.on.under.encoded.0 h.on.under.encoded.1 h.on.under.carried in
@@ -101,9 +104,9 @@ returns-clause-moves c = λ plan l call v answers is h.
     let new = c.copy_between.new.table.handles in
     let values = c.copy_between.new.values in
     let there : to.instance < length state.tables.items = omega (arith, receiver_there plan l way call (length h.on.under.below) h.on.under.link h.on.under.caller, ap (λ (r : Receiver). r.instance) h.to_is, h.on.under.tables) in
-    let inside : to.instance < length s.tables = omega (arith, there, handles_length state.tables.items) in
+    let inside : to.instance < length s.tables = omega (arith, there, length_handles state.tables.items) in
     let also : to.instance < length s.memories = omega (arith, receiver_there plan l way call (length h.on.under.below) h.on.under.link h.on.under.caller, ap (λ (r : Receiver). r.instance) h.to_is, h.on.under.memories) in
-    let table = handles_at state.tables.items to.instance c.index_mut-table.result.now there c.index_mut-table.ensures.value in
+    let table = table_read state.tables.items to.instance c.index_mut-table.result.now there c.index_mut-table.ensures.value in
     let got = c.in-Ok.ensures.copied h.on.under.carried.view answers (types_of l way) v (can_copy c.records_ask_for_parts.ensures.call plan state l (record { way = c.args.way; layout = c.layout_of-layout.result; slots = c.as_slice.result }) call v answers c.args.giver to c.kinds_of-kinds.result.now h (c.layout_of-layout.ensures l is) c.as_slice.ensures (c.kinds_of-kinds.ensures l is)) in
     let copied : IsCopied to way (types_of l way) v scan.parts answers (memory_at s.memories to.instance) got.memory (table_at s.tables to.instance) new values numbers =
     subst (λ (t : Handles). IsCopied to way (types_of l way) v scan.parts answers (memory_at s.memories to.instance) got.memory t new values numbers) (sym table) got.copied in
@@ -113,7 +116,7 @@ returns-clause-moves c = λ plan l call v answers is h.
     let leaves = h.on.under.carried.handles in
     let is_table = table_is s l way to slots scan v answers target all has leaves got.memory new values numbers inside also copied in
     let is_numbers = numbers_are s l way to slots scan v answers target all has leaves got.memory new values numbers inside also copied in
-    let tables : handles_in (slice_set state.tables.items to.instance c.copy_between.new.table) ≡ slice_set (handles_in state.tables.items) to.instance new = set_handles state.tables.items to.instance c.copy_between.new.table in
+    let tables : handles_in (slice_set state.tables.items to.instance c.copy_between.new.table) ≡ slice_set (handles_in state.tables.items) to.instance new = handles_set state.tables.items to.instance c.copy_between.new.table in
     let handles : leaves_of c.handles.result.now ≡ scan.handles = c.handles.ensures ∙ ap (λ (k : Scanned). k.handles) c.copy_between.ensures.kept_stays in
     let owners = c.place_owned.ensures ∙ ap (λ (x : List HandleLeaf). owners_given to.instance x c.numbers.result.now state.owners.items) handles
     ∙ ap (λ (x : List ℕ). owners_given to.instance scan.handles x state.owners.items) (c.numbers.ensures ∙ is_numbers) in

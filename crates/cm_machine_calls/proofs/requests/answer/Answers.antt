@@ -14,8 +14,8 @@ use Rattle.cm_machine_calls.specs.Going.{CanGoOn, passage_now}
 use Rattle.cm_machine_calls.proofs.HandingLaws.{all_are}
 use Rattle.cm_machine_calls.proofs.ReturnLaws.{answer_fine, answer_wrong, under_answered}
 use Rattle.cm_machine_calls.proofs.RowLaws.{same_instance}
-use Rattle.cm_machine_calls.proofs.Rows.{row_more}
 use Rattle.cm_machine_calls.proofs.requests.answer.Goals as goal
+use Rattle.cm_machine_parts.proofs.RowsLaws.{meets_by}
 
 pub keep_answer-requires : goal.keep_answer-requires
 keep_answer-requires c =
@@ -112,7 +112,7 @@ returns-clause-row c = λ plan l v answers r is under next.
       under = under_answered c.answers_stay_fine.ensures.kept plan s mid l way call v answers r c.receiver_of-to.result.instance at under next keeps c.keep_answer.ensures.stack here;
       placed = λ e spilled. omega (arith, length-append answers (at ∷ []));
     } in
-    row_more (GoesOn (state_of mid) (top_place (state_of mid)) l way call (passage_now mid) v (answers ++ at ∷ [])) (AnswersAt (state_of s) l way call (passage_now s) v answers r at) c.go_on.result
+    meets_by (GoesOn (state_of mid) (top_place (state_of mid)) l way call (passage_now mid) v (answers ++ at ∷ [])) (AnswersAt (state_of s) l way call (passage_now s) v answers r at) c.go_on.result
     c.go_on.new.values (state_of c.go_on.new.state)
     (λ e st goes. answer_fine (state_of s) _ _ e st fine
     (passage_now mid, keeps.kept, subst (λ (y : State). GoesOn y (top_place y) l way call (passage_now mid) v (answers ++ at ∷ []) e st) keeps.is goes))

@@ -5,9 +5,9 @@ use Rattle.cm_machine_parts.specs.States.{state_of}
 use Rattle.cm_machine_calls.specs.Calling.{AnswersAt}
 use Rattle.cm_machine_calls.specs.Going.{passage_now, phase_of}
 use Rattle.cm_machine_calls.proofs.ReturnLaws.{answers_row, on_its_way}
-use Rattle.cm_machine_calls.proofs.Rows.{row_more}
-use Rattle.cm_machine_calls.proofs.Standing.{some_stand}
 use Rattle.cm_machine_calls.proofs.requests.return_answer.Goals as goal
+use Rattle.cm_machine_parts.proofs.RowsLaws.{meets_by}
+use Rattle.cm_machine_model.proofs.StackLaws.{some_stand}
 
 pub returns-in_default-clause-row : goal.returns-in_default-clause-row
 returns-in_default-clause-row c = λ plan l ret.
@@ -29,7 +29,7 @@ returns-clause-row c = λ plan l y.
     let call = c.args.call.now in
     let h = on_its_way plan s l way call y.top y.runs y.on_top y.is_call y.reaches c.requires.phase c.len.ensures.numbers
     (c.calls_can_end.ensures plan s y.runs (some_stand s.stack.frames y.top y.on_top)) in
-    row_more (AnswersAt (state_of s) l way call (passage_now s) h.v h.answers h.r c.in-Some.at) (ReturnsIn (phase_of way) (state_of s) l call c.args.given.now) c.answer.result c.answer.new.values
+    meets_by (AnswersAt (state_of s) l way call (passage_now s) h.v h.answers h.r c.in-Some.at) (ReturnsIn (phase_of way) (state_of s) l call c.args.given.now) c.answer.result c.answer.new.values
     (state_of c.answer.new.state)
     (λ e st a. answers_row way (state_of s) l call c.args.given.now e st
     (inr (

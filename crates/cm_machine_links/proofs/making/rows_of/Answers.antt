@@ -7,9 +7,11 @@ use Rattle.cm_validate_spaces.specs.declared.checked.Checked.{Checked}
 use Rattle.cm_match.specs.Linked.{components_in, set_in}
 use Rattle.cm_machine_links.specs.Standing.{RowsStand}
 use Rattle.cm_machine_links.specs.declared.core_funcs.CoreFunc.{CoreFunc}
-use Rattle.cm_machine_links.proofs.MadeFacts.{as_many_spaces, component_at, one_more_row, rows_more, set_at}
+use Rattle.cm_machine_links.proofs.MadeFacts.{component_at, one_more_row, rows_more}
 use Rattle.cm_machine_links.proofs.PlanFacts.{row_stands}
 use Rattle.cm_machine_links.proofs.making.rows_of.Goals as goal
+use Rattle.cm_match_serving.proofs.Judging.{set_length}
+use Rattle.cm_match_serving.proofs.Rows.{set_at}
 
 pub core_funcs-requires-clause-stand : goal.core_funcs-requires-clause-stand
 core_funcs-requires-clause-stand c =
@@ -35,5 +37,5 @@ loop-component-preserved c =
 pub returns : goal.returns
 returns c =
     let set : List Spaces = set_in c.args.linked.now in
-    let le : length set ≤ c.loop-component.component = omega (arith, c.loop-component-test.false, ap length c.components-components.ensures.components, as_many_spaces (components_in c.args.linked.now)) in
+    let le : length set ≤ c.loop-component.component = omega (arith, c.loop-component-test.false, ap length c.components-components.ensures.components, set_length (components_in c.args.linked.now)) in
     subst (λ (l : List Spaces). RowsStand set 0 l (map (λ v. v.items) c.loop-component.rows.items)) (take_all c.loop-component.component set le) c.loop-component.invariant

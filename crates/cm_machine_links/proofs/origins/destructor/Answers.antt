@@ -4,9 +4,9 @@ use Rattle.cm_validate_items.specs.declared.ranges.Resource.{Resource}
 use Rattle.cm_validate_spaces.specs.declared.checked.Checked.{Checked}
 use Rattle.cm_match.specs.Linked.{components_in}
 use Rattle.cm_machine_links.specs.Planning.{destructor_in}
-use Rattle.cm_machine_links.proofs.Lookups.{got}
 use Rattle.cm_machine_links.proofs.MadeFacts.{destructor_by}
 use Rattle.cm_machine_links.proofs.origins.destructor.Goals as goal
+use Rattle.cm_lemmas.proofs.Lists.{got}
 
 pub returns-in_err-destructor : goal.returns-in_err-destructor
 returns-in_err-destructor c =

@@ -4,8 +4,9 @@ use Rattle.std.proofs.lemmas.List.{take_all}
 use Rattle.cm_types.specs.Spellable.{is_spellable}
 use Rattle.cm_types_arena.specs.Places.{funcs_of, types_of}
 use Rattle.cm_types_arena.specs.TypeDefs.{func_at, type_at}
-use Rattle.cm_machine_links.proofs.PassingFacts.{all_at, one_spelled_more, spelled_of}
+use Rattle.cm_machine_links.proofs.PassingFacts.{one_spelled_more, spelled_of}
 use Rattle.cm_machine_links.proofs.passing.params_are_spellable.Goals as goal
+use Rattle.cm_lemmas.proofs.Lists.{all_at}
 
 pub types_are_lawful-requires : goal.types_are_lawful-requires
 types_are_lawful-requires c = all_at (λ q. q < length (types_of c.args.types.now)) c.func_params-place-items.result.now c.loop-place.place-index c.func_params-place-items.ensures.there c.loop-place-test.true

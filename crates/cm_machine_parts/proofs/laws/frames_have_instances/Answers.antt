@@ -1,7 +1,7 @@
 use Rattle.std.proofs.Common.{arith}
-use Rattle.cm_machine_parts.proofs.Ending.{frame_within}
 use Rattle.cm_machine_parts.proofs.Standing.{acts, unborrowed}
 use Rattle.cm_machine_parts.proofs.laws.frames_have_instances.Goals as goal
+use Rattle.cm_machine_model.proofs.ValidLaws.{frame_within}
 
 pub returns-clause-acts : goal.returns-clause-acts
 returns-clause-acts c = λ plan s top valid is. omega (arith, acts plan s.stack top valid.stack is, valid.tables)

@@ -3,8 +3,9 @@ use Rattle.cm_handles.specs.Handles.{Handles, TableState, if_not_lent, look_up}
 use Rattle.cm_machine_model.specs.State.{State, table_at}
 use Rattle.cm_machine_model.specs.Step.{Drops, DropsOwned}
 use Rattle.cm_machine_parts.specs.States.{state_of}
-use Rattle.cm_machine_resources.proofs.DroppingRows.{drop_borrowed_at, drop_fault_at, drop_owned_at, meets_by}
+use Rattle.cm_machine_resources.proofs.DroppingRows.{drop_borrowed_at, drop_fault_at, drop_owned_at}
 use Rattle.cm_machine_resources.proofs.drops.drop_resource.Goals as goal
+use Rattle.cm_machine_parts.proofs.RowsLaws.{meets_by}
 
 pub returns-in-Err-clause-row : goal.returns-in-Err-clause-row
 returns-in-Err-clause-row c =

@@ -2,8 +2,9 @@ use Rattle.std.proofs.Common.{◌≡◌, ◌∙◌, Some, sym, ap, subst, IfSome
 use Rattle.std.specs.Option.{option_map}
 use Rattle.cm_match_serving.specs.cm_validate_entries.Entries.{func_def, is_func_there}
 use Rattle.cm_match_serving.specs.Linkings.{components_in}
-use Rattle.cm_match.proofs.Follow.{exported_by, funcs_of_it, got, provider_at}
+use Rattle.cm_match.proofs.Follow.{exported_by, funcs_of_it, provider_at}
 use Rattle.cm_match.proofs.following.exported_func.Goals as goal
+use Rattle.cm_lemmas.proofs.Lists.{got}
 
 pub returns-clause-is : goal.returns-clause-is
 returns-clause-is c =

@@ -1,7 +1,8 @@
 use Rattle.std.proofs.Common.{◌<◌, arith, length}
 use Rattle.cm_match_serving.specs.Linkings.{components_in, set_in}
-use Rattle.cm_match.proofs.Walking.{set_length, walk_ends, walk_goes_on, walk_stops}
+use Rattle.cm_match.proofs.Walking.{walk_ends, walk_goes_on, walk_stops}
 use Rattle.cm_match.proofs.walk.walk_component.Goals as goal
+use Rattle.cm_match_serving.proofs.Judging.{set_length}
 
 pub returns-in-Err-clause-fault : goal.returns-in-Err-clause-fault
 returns-in-Err-clause-fault c =

@@ -1,9 +1,10 @@
 use Rattle.std.proofs.Common.{Some, arith, refl, sym, ◌∙◌}
 use Rattle.cm_binary_model.specs.Trees.{lift}
 use Rattle.cm_validate_canons.specs.Types.{funcs_in, types_in}
-use Rattle.cm_validate_canons.proofs.AnswerLaws.{added_answer, faulty_answer, is_none}
+use Rattle.cm_validate_canons.proofs.AnswerLaws.{added_answer, faulty_answer}
 use Rattle.cm_validate_canons.proofs.ReasonLaws.{never_untyped}
 use Rattle.cm_validate_canons.proofs.lifts.add_lift.Goals as goal
+use Rattle.cm_lemmas.proofs.Options.{is_none}
 
 pub returns-then-is_some-clause-answer : goal.returns-then-is_some-clause-answer
 returns-then-is_some-clause-answer c =

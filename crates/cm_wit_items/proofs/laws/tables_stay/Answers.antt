@@ -1,7 +1,7 @@
 use Rattle.std.proofs.Common.{length}
-use Rattle.cm_wit_items.proofs.GrowthLaws.{extends_length}
-use Rattle.cm_wit_items.proofs.ScopeLaws.{table_kept, placed_more}
 use Rattle.cm_wit_items.proofs.laws.tables_stay.Goals as goal
+use Rattle.cm_wit_meanings.proofs.GrowthLaws.{extends_length}
+use Rattle.cm_wit_meanings.proofs.ScopeLaws.{placed_more, table_kept}
 
 pub returns-clause-same : goal.returns-clause-same
 returns-clause-same c = λ types more table e h. table_kept types more table e h

@@ -5,8 +5,8 @@ use Rattle.cm_wit_reading.specs.Views.{resource_func_tree}
 use Rattle.cm_wit_items.specs.Fronts.{IsFronted, resource_fronts}
 use Rattle.cm_wit_items.specs.Members as spec
 use Rattle.cm_wit_items.specs.MemberViews.{member_view}
-use Rattle.cm_wit_items.proofs.ListLaws.{Makes}
 use Rattle.cm_wit_items.proofs.members.add_funcs.Given as goal
+use Rattle.cm_lemmas.proofs.Lists.{Makes}
 
 abbrev pub invariant-loop-func : goal.invariant-loop-func
 invariant-loop-func l = record {

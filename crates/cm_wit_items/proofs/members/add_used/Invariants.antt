@@ -6,8 +6,8 @@ use Rattle.cm_wit_tables.specs.Worlds.{used_as}
 use Rattle.cm_wit_items.specs.Fronts.{IsFronted}
 use Rattle.cm_wit_items.specs.Members as spec
 use Rattle.cm_wit_items.specs.MemberViews.{member_view}
-use Rattle.cm_wit_items.proofs.ListLaws.{Makes}
 use Rattle.cm_wit_items.proofs.members.add_used.Given as goal
+use Rattle.cm_lemmas.proofs.Lists.{Makes}
 
 abbrev pub invariant-loop-used : goal.invariant-loop-used
 invariant-loop-used l = record {

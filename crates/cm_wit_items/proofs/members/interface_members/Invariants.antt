@@ -4,8 +4,8 @@ use Rattle.cm_wit_reading.specs.Views.{interface_item_tree}
 use Rattle.cm_wit_items.specs.Fronts.{AreFronted}
 use Rattle.cm_wit_items.specs.Members.{members_of}
 use Rattle.cm_wit_items.specs.MemberViews.{member_view}
-use Rattle.cm_wit_items.proofs.ListLaws.{Makes}
 use Rattle.cm_wit_items.proofs.members.interface_members.Given as goal
+use Rattle.cm_lemmas.proofs.Lists.{Makes}
 
 abbrev pub invariant-loop-item : goal.invariant-loop-item
 invariant-loop-item l = record {

@@ -5,8 +5,8 @@ use Rattle.cm_wit_meanings.specs.declared.fault.MeaningFault.TheVariants as faul
 use Rattle.cm_wit_meanings.specs.Added.{is_place}
 use Rattle.cm_wit_meanings.specs.Faults.{IsTypeFault}
 use Rattle.cm_wit_meanings.proofs.WitDefinitionsAddedLaws.{answers_so, meant_so, refused_first, type_added}
-use Rattle.cm_wit_meanings.proofs.DefinitionLaws.{cloned}
 use Rattle.cm_wit_meanings.proofs.definitions.push_flags.Goals as goal
+use Rattle.cm_lemmas.proofs.Lists.{cloned}
 
 pub returns-in_err-names : goal.returns-in_err-names
 returns-in_err-names c = answers_so (search rules) (refused_first type_at is_place IsTypeFault c.args.types.now _ fault.Memory tt)

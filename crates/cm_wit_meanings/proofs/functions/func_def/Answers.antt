@@ -6,9 +6,9 @@ use Rattle.cm_wit_meanings.specs.Meanings.{each_meaning, typed_meaning}
 use Rattle.cm_wit_meanings.specs.Places.{scope_in}
 use Rattle.cm_wit_meanings.specs.WitDefinitionsAdded.{AddedFields}
 use Rattle.cm_wit_meanings.proofs.WitDefinitionsAddedLaws.{answers_so, refused}
-use Rattle.cm_wit_meanings.proofs.WitDefinitionsScopeLaws.{scope_placed}
 use Rattle.cm_wit_meanings.proofs.FuncLaws.{answer_refused, func_added, params_refused}
 use Rattle.cm_wit_meanings.proofs.functions.func_def.Goals as goal
+use Rattle.cm_wit_meanings.proofs.ScopeLaws.{scope_placed}
 
 pub returns-in_err-params : goal.returns-in_err-params
 returns-in_err-params c =

@@ -2,9 +2,9 @@ use Rattle.std.proofs.Common.{rules, subst, List, sym}
 use Rattle.cm_types.specs.Types.{Ty, FuncTy}
 use Rattle.cm_types_arena.specs.Places.{funcs_of, types_of}
 use Rattle.cm_wit_meanings.specs.Places.{Extends}
-use Rattle.cm_wit_meanings.proofs.WitDefinitionsGrowthLaws.{extends_same}
 use Rattle.cm_wit_meanings.proofs.FuncLaws.{func_placed, func_unplaced}
 use Rattle.cm_wit_meanings.proofs.functions.push_func.Goals as goal
+use Rattle.cm_wit_meanings.proofs.GrowthLaws.{extends_same}
 
 pub push_func_def-requires : goal.push_func_def-requires
 push_func_def-requires c = record { parts = c.in_ok-def.ensures.there }

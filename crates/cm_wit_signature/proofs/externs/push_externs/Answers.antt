@@ -6,9 +6,9 @@ use Rattle.cm_wit_items.specs.Functions.{extern_funcs}
 use Rattle.cm_wit_items.specs.ItemFaults.{AreWithin}
 use Rattle.cm_wit_signature.specs.PartViews.{fronts_in}
 use Rattle.cm_wit_signature.proofs.ExternLaws.{listed_of}
-use Rattle.cm_wit_signature.proofs.GrowthLaws.{extends_more}
 use Rattle.cm_wit_signature.proofs.LoopLaws.{made_own, made_next, made_fault, made_all}
 use Rattle.cm_wit_signature.proofs.externs.push_externs.Goals as goal
+use Rattle.cm_wit_meanings.proofs.GrowthLaws.{extends_more}
 
 pub add_number-requires-clause-placed : goal.add_number-requires-clause-placed
 add_number-requires-clause-placed c = c.tables_stay.ensures.placed _ _ c.args.parts.now.table.now c.loop-number.invariant.types c.requires.placed

@@ -5,8 +5,9 @@ use Rattle.std.specs.Prelude.{take}
 use Rattle.cm_validate_model.specs.Valid.{IsValid}
 use Rattle.cm_match_serving.specs.Sets.{sections_of}
 use Rattle.cm_validate_spaces.specs.Checked.{sections_in}
-use Rattle.huxarte.proofs.LoadingLaws.{all_next, take_next}
+use Rattle.huxarte.proofs.LoadingLaws.{all_next}
 use Rattle.huxarte.proofs.loading.checked_of.Goals as goal
+use Rattle.cm_lemmas.proofs.Lists.{take_next}
 
 pub loop-file-preserved : goal.loop-file-preserved
 loop-file-preserved c =

@@ -3,9 +3,10 @@ use Rattle.cm_layout.specs.Layouts.{layout_of}
 use Rattle.cm_layout.specs.declared.heads.Head.{Head}
 use Rattle.cm_abi_model.specs.Stores.{placed}
 use Rattle.cm_abi_copy.specs.Copying.{copying_of, given_for}
-use Rattle.cm_abi_copy.proofs.BulkLemmas.{row_bulk, taken}
-use Rattle.cm_abi_copy.proofs.SeenLayouts.{seen_head}
+use Rattle.cm_abi_copy.proofs.BulkLemmas.{row_bulk}
 use Rattle.cm_abi_copy.proofs.place.PlaceValueSource.plain_bytes.Goals as goal
+use Rattle.cm_layout.proofs.LayoutLemmas.{seen_head}
+use Rattle.cm_lemmas.proofs.Lists.{taken_length}
 
 pub returns : goal.returns
 returns c = λ n g k h at ready.
@@ -17,7 +18,7 @@ returns c = λ n g k h at ready.
     let size : p + c.args.count * c.args.element.now.head.size - p ≡ c.args.count * l.head.size = rw one (omega arith) in
     record {
       stored = all.0 k h ∙ sym (ap (λ z. placed at (take z (drop p m))) size);
-      size = ap (λ z. length (take z (drop p m))) size ∙ taken m p (c.args.count * l.head.size) ready.1;
+      size = ap (λ z. length (take z (drop p m))) size ∙ taken_length m p (c.args.count * l.head.size) ready.1;
       parts = all.1;
       handles = all.2;
     }

@@ -4,8 +4,9 @@ use Rattle.cm_machine_model.specs.Plan.{core_func_at}
 use Rattle.cm_machine_links.specs.Planned.{IsFound, rows_in}
 use Rattle.cm_machine_links.specs.declared.core_funcs.CoreFunc.{CoreFunc}
 use Rattle.cm_machine_links.proofs.PlanFacts.{found_at}
-use Rattle.cm_machine_links.proofs.Lookups.{got, row_found, row_missing}
+use Rattle.cm_machine_links.proofs.Lookups.{row_found, row_missing}
 use Rattle.cm_machine_links.proofs.links.Links.get.Goals as goal
+use Rattle.cm_lemmas.proofs.Lists.{got}
 
 pub returns-in_err-get : goal.returns-in_err-get
 returns-in_err-get c = λ p planned.

@@ -4,8 +4,9 @@ use Rattle.cm_match_model.specs.Imports.{import_at}
 use Rattle.cm_match_serving.specs.Answers.{JudgesImport}
 use Rattle.cm_match_serving.specs.Linkings.{components_in, set_in}
 use Rattle.cm_match.specs.Pairs.{IsPairOf, IsServedPair}
-use Rattle.cm_match.proofs.PairLaws.{found, is_none, noted, now_served, put, served_again}
+use Rattle.cm_match.proofs.PairLaws.{found, noted, now_served, put, served_again}
 use Rattle.cm_match.proofs.judged.Judged.import_fault.Goals as goal
+use Rattle.cm_lemmas.proofs.Options.{is_none_by}
 
 pub returns-then-is_served-clause-fault : goal.returns-then-is_served-clause-fault
 returns-then-is_served-clause-fault c = λ x there.
@@ -20,7 +21,7 @@ pub returns-in_ok-insert-clause-known : goal.returns-in_ok-insert-clause-known
 returns-in_ok-insert-clause-known c =
     let w = c.args.self.now in
     let set = set_in c.args.linking.now in
-    let none = is_none c.in_ok-fault.fault c.is_none.result c.is_none.ensures c.if-is_none.true in
+    let none = is_none_by c.in_ok-fault.fault c.is_none.result c.is_none.ensures c.if-is_none.true in
     let one : IsServedPair set w.shared.items c.in-Some.pair =
     now_served set w.shared.items c.args.component c.args.import c.in-Some.pair c.in-Some.ensures
     (λ x there. subst (JudgesImport set (import_at c.args.component c.args.import x)) none (c.in_ok-fault.ensures.fault x there)) in

@@ -1,7 +1,8 @@
 use Rattle.std.proofs.Common.{◌≡◌, ◌∙◌, Some, sym, slice_get}
 use Rattle.cm_match_serving.specs.Linkings.{components_in}
-use Rattle.cm_match_serving.proofs.Found.{got, export_read}
+use Rattle.cm_match_serving.proofs.Found.{export_read}
 use Rattle.cm_match_serving.proofs.linking.Linking.export.Goals as goal
+use Rattle.cm_lemmas.proofs.Lists.{got}
 
 pub returns : goal.returns
 returns c =

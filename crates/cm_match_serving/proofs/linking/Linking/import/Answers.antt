@@ -1,7 +1,8 @@
 use Rattle.std.proofs.Common.{◌≡◌, ◌∙◌, Some, sym, slice_get}
 use Rattle.cm_match_serving.specs.Linkings.{components_in}
-use Rattle.cm_match_serving.proofs.Found.{got, import_read}
+use Rattle.cm_match_serving.proofs.Found.{import_read}
 use Rattle.cm_match_serving.proofs.linking.Linking.import.Goals as goal
+use Rattle.cm_lemmas.proofs.Lists.{got}
 
 pub returns : goal.returns
 returns c =

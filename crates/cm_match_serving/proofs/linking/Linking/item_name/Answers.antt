@@ -3,8 +3,9 @@ use Rattle.cm_types_arena.specs.declared.instances.InstanceType.{InstanceType}
 use Rattle.cm_types_arena.specs.declared.instances.Item.{Item}
 use Rattle.cm_match_serving.specs.Linkings.{components_in, set_in}
 use Rattle.cm_match_serving.specs.Sets.{funcs_at, types_at}
-use Rattle.cm_match_serving.proofs.Found.{got, item_read}
+use Rattle.cm_match_serving.proofs.Found.{item_read}
 use Rattle.cm_match_serving.proofs.linking.Linking.item_name.Goals as goal
+use Rattle.cm_lemmas.proofs.Lists.{got}
 
 pub returns-in_ok-get-in-Instance : goal.returns-in_ok-get-in-Instance
 returns-in_ok-get-in-Instance c =

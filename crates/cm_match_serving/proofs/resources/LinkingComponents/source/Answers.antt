@@ -5,8 +5,9 @@ use Rattle.cm_validate_items.specs.declared.ranges.Resource.{Resource}
 use Rattle.cm_match_serving.specs.Components.{source_view}
 use Rattle.cm_match_serving.specs.ToldSets.{source_by}
 use Rattle.cm_match_serving.specs.Linkings.{components_in, set_in}
-use Rattle.cm_match_serving.proofs.Found.{got, source_told}
+use Rattle.cm_match_serving.proofs.Found.{source_told}
 use Rattle.cm_match_serving.proofs.resources.LinkingComponents.source.Goals as goal
+use Rattle.cm_lemmas.proofs.Lists.{got}
 
 pub returns-in_err-resource : goal.returns-in_err-resource
 returns-in_err-resource c =

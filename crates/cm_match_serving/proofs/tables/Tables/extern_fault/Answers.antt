@@ -12,8 +12,9 @@ use Rattle.cm_validate_entries.specs.ComponentSpaces.{exported_def}
 use Rattle.cm_validate_entries.specs.Entries.{func_def}
 use Rattle.cm_match_serving.specs.Answers.{JudgesExtern}
 use Rattle.cm_match_serving.specs.Sides.{had_funcs, had_types, set_of_pair, wanted_funcs, wanted_types}
-use Rattle.cm_match_serving.proofs.Judging.{func_extern, if_ok_more}
+use Rattle.cm_match_serving.proofs.Judging.{func_extern}
 use Rattle.cm_match_serving.proofs.tables.Tables.extern_fault.Goals as goal
+use Rattle.cm_lemmas.proofs.Results.{if_ok_more}
 
 pub returns-in-Func-have-clause-fault : goal.returns-in-Func-have-clause-fault
 returns-in-Func-have-clause-fault c =

@@ -7,8 +7,9 @@ use Rattle.cm_validate_entries.specs.declared.entries.MemberEntry.{MemberEntry}
 use Rattle.cm_match_serving.specs.Answers.{JudgesItem}
 use Rattle.cm_match_serving.specs.Sides.{had_funcs, had_types, set_of_pair, wanted_funcs}
 use Rattle.cm_match_serving.specs.Tables.{func_brought}
-use Rattle.cm_match_serving.proofs.Judging.{func_answer, if_ok_more}
+use Rattle.cm_match_serving.proofs.Judging.{func_answer}
 use Rattle.cm_match_serving.proofs.tables.Tables.func_item.Goals as goal
+use Rattle.cm_lemmas.proofs.Results.{if_ok_more}
 
 pub returns-in-Func-clause-fault : goal.returns-in-Func-clause-fault
 returns-in-Func-clause-fault c =

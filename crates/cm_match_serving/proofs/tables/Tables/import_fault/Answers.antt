@@ -2,8 +2,9 @@ use Rattle.std.proofs.Common.{◌∙◌, sym}
 use Rattle.cm_match_model.specs.declared.component.Link.{Link}
 use Rattle.cm_match_model.specs.Imports.{candidates}
 use Rattle.cm_match_serving.specs.Linkings.{set_in}
-use Rattle.cm_match_serving.proofs.Judging.{chosen, if_ok_more, import_answer, linked, one_link}
+use Rattle.cm_match_serving.proofs.Judging.{chosen, import_answer, linked, one_link}
 use Rattle.cm_match_serving.proofs.tables.Tables.import_fault.Goals as goal
+use Rattle.cm_lemmas.proofs.Results.{if_ok_more}
 
 pub returns-in-One-clause-fault : goal.returns-in-One-clause-fault
 returns-in-One-clause-fault c =

@@ -3,8 +3,9 @@ use Rattle.cm_types_numbers.specs.Numbering.{numbering}
 use Rattle.cm_match_serving.specs.Sides.{standing_of, funcs_in}
 use Rattle.cm_match_serving.specs.Tables.{func_brought}
 use Rattle.cm_types_arena.specs.Replaced.{replaced_func}
-use Rattle.cm_match_serving.proofs.Same.{func_stays, funcs_of_pair, known_at, test_tells}
+use Rattle.cm_match_serving.proofs.Same.{func_stays, funcs_of_pair, known_at}
 use Rattle.cm_match_serving.proofs.tables.Tables.same_funcs.Goals as goal
+use Rattle.cm_lemmas.proofs.Numbers.{test_tells}
 
 pub number_func-requires : goal.number_func-requires
 number_func-requires c = known_at c.args.pair.now.linking c.importer.result.linking c.args.self.now (sym c.importer.ensures.linking) c.requires

@@ -3,8 +3,9 @@ use Rattle.cm_types_numbers.specs.Numbering.{numbering}
 use Rattle.cm_match_serving.specs.Sides.{standing_of, types_in}
 use Rattle.cm_match_serving.specs.Tables.{type_brought}
 use Rattle.cm_types_arena.specs.Replaced.{replaced}
-use Rattle.cm_match_serving.proofs.Same.{known_at, test_tells, type_stays, types_of_pair}
+use Rattle.cm_match_serving.proofs.Same.{known_at, type_stays, types_of_pair}
 use Rattle.cm_match_serving.proofs.tables.Tables.same_types.Goals as goal
+use Rattle.cm_lemmas.proofs.Numbers.{test_tells}
 
 pub number_type-requires : goal.number_type-requires
 number_type-requires c = known_at c.args.pair.now.linking c.importer.result.linking c.args.self.now (sym c.importer.ensures.linking) c.requires

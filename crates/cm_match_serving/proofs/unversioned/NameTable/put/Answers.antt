@@ -4,8 +4,8 @@ use Rattle.std.specs.String.{string_bytes}
 use Rattle.cm_names.specs.TextTables.{texts_of}
 use Rattle.cm_names.specs.Distinct.{AreDistinct}
 use Rattle.cm_names.proofs.NumberLaws.{distinct_more}
-use Rattle.cm_match_serving.proofs.UnversionedLaws.{one_longer}
 use Rattle.cm_match_serving.proofs.unversioned.NameTable.put.Goals as goal
+use Rattle.cm_lemmas.proofs.Lists.{one_longer}
 
 pub invariant_of-self-2 : goal.invariant_of-self-2
 invariant_of-self-2 c =

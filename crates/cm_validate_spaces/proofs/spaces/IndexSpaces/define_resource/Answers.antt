@@ -5,9 +5,10 @@ use Rattle.cm_validate_model.specs.Options.{guest_broken}
 use Rattle.cm_validate_model.specs.Reasons.{if_found, least}
 use Rattle.cm_validate_model.specs.Spaces.{Spaces}
 use Rattle.cm_validate_spaces.specs.IndexSpaces.{funcs_in, types_in}
-use Rattle.cm_validate_spaces.proofs.AnswerLaws.{core_at, faulty_answer, is_none}
+use Rattle.cm_validate_spaces.proofs.AnswerLaws.{core_at, faulty_answer}
 use Rattle.cm_validate_spaces.proofs.TypeLaws.{one_answer}
 use Rattle.cm_validate_spaces.proofs.spaces.IndexSpaces.define_resource.Goals as goal
+use Rattle.cm_lemmas.proofs.Options.{is_none}
 
 pub returns-then-is_some : goal.returns-then-is_some
 returns-then-is_some c =

@@ -3,9 +3,9 @@ use Rattle.cm_binary_model.specs.Trees.{canon_tree}
 use Rattle.cm_validate_model.specs.declared.fault.ValidReason.{ValidReason}
 use Rattle.cm_validate_spaces.specs.Making.{Makes}
 use Rattle.cm_validate_spaces.specs.declared.made.MadeFunc.{MadeFunc}
-use Rattle.cm_validate_spaces.proofs.AnswerLaws.{is_none}
 use Rattle.cm_validate_spaces.proofs.CanonLaws.{nothing_answer}
 use Rattle.cm_validate_spaces.proofs.spaces.IndexSpaces.make.Goals as goal
+use Rattle.cm_lemmas.proofs.Options.{is_none}
 
 pub returns-in-None : goal.returns-in-None
 returns-in-None c =

@@ -8,8 +8,9 @@ use Rattle.cm_wit_conforms.specs.Judging.{marks_of}
 use Rattle.cm_types_numbers.specs.Moved.{brought_func, brought_type}
 use Rattle.cm_wit_conforms.specs.Views.{comparison_of}
 use Rattle.cm_wit_conforms.specs.declared.comparisons.Comparison.{Comparison}
-use Rattle.cm_wit_conforms.proofs.JudgeLaws.{as_marked, if_ok_more}
+use Rattle.cm_wit_conforms.proofs.JudgeLaws.{as_marked}
 use Rattle.cm_wit_conforms.proofs.judge.Tables.fits.Goals as goal
+use Rattle.cm_lemmas.proofs.Results.{if_ok_more}
 
 -- what is told of the comparison, told of the one that was matched
 told : (have world : Types) (all : List Entry) (b : Bool) (what matched : Comparison) → what ≡ matched → IsTrue b ↔ Fits all (comparison_of have world matched) → IsTrue b ↔ Fits all (comparison_of have world what)

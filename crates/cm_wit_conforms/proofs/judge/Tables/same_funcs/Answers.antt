@@ -3,8 +3,9 @@ use Rattle.cm_types_numbers.specs.Numbering.{numbering}
 use Rattle.cm_types_arena.specs.Replaced.{replaced_func}
 use Rattle.cm_types_numbers.specs.Moved.{brought_func}
 use Rattle.cm_wit_conforms.specs.Judging.{marks_of}
-use Rattle.cm_wit_conforms.proofs.JudgeLaws.{test_tells, func_stays}
+use Rattle.cm_wit_conforms.proofs.JudgeLaws.{func_stays}
 use Rattle.cm_wit_conforms.proofs.judge.Tables.same_funcs.Goals as goal
+use Rattle.cm_lemmas.proofs.Numbers.{test_tells}
 
 pub number_func_type-requires-2 : goal.number_func_type-requires-2
 number_func_type-requires-2 c =

@@ -3,8 +3,9 @@ use Rattle.cm_types_numbers.specs.Numbering.{numbering}
 use Rattle.cm_types_arena.specs.Replaced.{replaced}
 use Rattle.cm_types_numbers.specs.Moved.{brought_type}
 use Rattle.cm_wit_conforms.specs.Judging.{marks_of}
-use Rattle.cm_wit_conforms.proofs.JudgeLaws.{test_tells, type_stays}
+use Rattle.cm_wit_conforms.proofs.JudgeLaws.{type_stays}
 use Rattle.cm_wit_conforms.proofs.judge.Tables.same_types.Goals as goal
+use Rattle.cm_lemmas.proofs.Numbers.{test_tells}
 
 pub number_type-requires-2 : goal.number_type-requires-2
 number_type-requires-2 c =
