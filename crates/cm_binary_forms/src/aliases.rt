@@ -9,6 +9,7 @@ ghost use Rattle.cm_binary_forms.specs.declared.codes.AliasSort.TheVariants as a
 ghost use Rattle.cm_binary_forms.specs.Aliases.{outer_type, instance_export};
 ghost use Rattle.cm_binary_forms.specs.Aliases.{type_alias_of, alias_of, alias};
 
+use crate::indices::read_index;
 use crate::types::Types;
 use crate::{
     AliasSort, CoreAliasTarget, DecodeReason, FuncAliasTarget, TypeAliasTarget, no_alias_target,
@@ -51,7 +52,7 @@ fn read_core_alias(
 {
     let sort = bytes.code()?;
     let CoreAliasTarget::CoreInstanceExport = bytes.code()?;
-    let instance = bytes.number(DecodeReason::BadNumber)?;
+    let instance = read_index(bytes)?;
     let name = read_text(alloc, bytes)?;
     Ok(Alias::CoreInstanceExport {
         sort,
@@ -100,7 +101,7 @@ fn read_instance_export(
     ensures read { Reads (instance_export sort) alias_tree bytes.old bytes.new result }
     ensures end { bytes.new.end ≡ bytes.old.end }
 {
-    let instance = bytes.number(DecodeReason::BadNumber)?;
+    let instance = read_index(bytes)?;
     let name = read_plain_name(alloc, bytes)?;
     Ok(Alias::InstanceExport {
         sort,
@@ -117,8 +118,8 @@ pub(crate) fn read_outer_type(
     ensures read { Reads outer_type (λ o. o) bytes.old bytes.new result }
     ensures end { bytes.new.end ≡ bytes.old.end }
 {
-    let count = bytes.number(DecodeReason::BadNumber)?;
-    let index = bytes.number(DecodeReason::BadNumber)?;
+    let count = read_index(bytes)?;
+    let index = read_index(bytes)?;
     Ok(OuterType { count, index })
 }
 

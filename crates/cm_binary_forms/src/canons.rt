@@ -9,6 +9,7 @@ ghost use Rattle.cm_binary_forms.specs.declared.codes.CanonForm.TheVariants as c
 ghost use Rattle.cm_binary_forms.specs.Texts.{vector};
 ghost use Rattle.cm_binary_forms.specs.Canons.{canon_option, canon_option_of, canon_of, canon};
 
+use crate::indices::read_index;
 use crate::sections::Items;
 use crate::{CanonForm, DecodeReason, OptionForm};
 use cm_binary_grammar::{Cursor, Form, ReadError, read_vec};
@@ -31,13 +32,9 @@ impl Form<DecodeReason, Items> for CanonOption {
             OptionForm::Utf8 => Ok(CanonOption::Utf8),
             OptionForm::Utf16 => Ok(CanonOption::Utf16),
             OptionForm::Latin1Utf16 => Ok(CanonOption::Latin1Utf16),
-            OptionForm::Memory => Ok(CanonOption::Memory(bytes.number(DecodeReason::BadNumber)?)),
-            OptionForm::Realloc => {
-                Ok(CanonOption::Realloc(bytes.number(DecodeReason::BadNumber)?))
-            }
-            OptionForm::PostReturn => {
-                Ok(CanonOption::PostReturn(bytes.number(DecodeReason::BadNumber)?))
-            }
+            OptionForm::Memory => Ok(CanonOption::Memory(read_index(bytes)?)),
+            OptionForm::Realloc => { Ok(CanonOption::Realloc(read_index(bytes)?)) }
+            OptionForm::PostReturn => { Ok(CanonOption::PostReturn(read_index(bytes)?)) }
         }
     }
 }
@@ -58,15 +55,15 @@ impl Form<DecodeReason, Items> for Canon {
             CanonForm::Lift => read_lift(alloc, bytes),
             CanonForm::Lower => read_lower(alloc, bytes),
             CanonForm::ResourceNew => {
-                let resource = bytes.number(DecodeReason::BadNumber)?;
+                let resource = read_index(bytes)?;
                 Ok(Canon::ResourceNew { resource })
             }
             CanonForm::ResourceDrop => {
-                let resource = bytes.number(DecodeReason::BadNumber)?;
+                let resource = read_index(bytes)?;
                 Ok(Canon::ResourceDrop { resource })
             }
             CanonForm::ResourceRep => {
-                let resource = bytes.number(DecodeReason::BadNumber)?;
+                let resource = read_index(bytes)?;
                 Ok(Canon::ResourceRep { resource })
             }
         }
@@ -83,9 +80,9 @@ fn read_lift(
     ensures end { bytes.new.end ≡ bytes.old.end }
 {
     bytes.byte(0x00, DecodeReason::UnknownCode)?;
-    let core_func = bytes.number(DecodeReason::BadNumber)?;
+    let core_func = read_index(bytes)?;
     let options = read_vec::<_, Items, _>(alloc, bytes, DecodeReason::BadNumber)?;
-    let ty = bytes.number(DecodeReason::BadNumber)?;
+    let ty = read_index(bytes)?;
     Ok(Canon::Lift {
         core_func,
         options,
@@ -103,7 +100,7 @@ fn read_lower(
     ensures end { bytes.new.end ≡ bytes.old.end }
 {
     bytes.byte(0x00, DecodeReason::UnknownCode)?;
-    let func = bytes.number(DecodeReason::BadNumber)?;
+    let func = read_index(bytes)?;
     let options = read_vec::<_, Items, _>(alloc, bytes, DecodeReason::BadNumber)?;
     Ok(Canon::Lower { func, options })
 }

@@ -11,6 +11,7 @@ ghost use Rattle.cm_binary_forms.specs.Types.{declared_type, declared_type_from,
 ghost use Rattle.cm_binary_forms.specs.Types.{type_bound, export_desc, export_decl, declaration};
 
 use crate::aliases::read_outer_type;
+use crate::indices::read_index;
 use crate::types::{Types, read_def_val_type, read_func_type};
 use crate::{
     AliasSort, DeclarationForm, DeclaredDescForm, DeclaredTypeForm, DecodeReason, OuterTypeTarget,
@@ -139,7 +140,7 @@ fn read_export_desc(
     ensures end { bytes.new.end ≡ bytes.old.end }
 {
     match bytes.code()? {
-        DeclaredDescForm::Func => Ok(ExportDesc::Func(bytes.number(DecodeReason::BadNumber)?)),
+        DeclaredDescForm::Func => Ok(ExportDesc::Func(read_index(bytes)?)),
         DeclaredDescForm::Type => Ok(ExportDesc::Type(read_type_bound(bytes)?)),
     }
 }
@@ -153,7 +154,7 @@ fn read_type_bound(
     ensures end { bytes.new.end ≡ bytes.old.end }
 {
     match bytes.code()? {
-        TypeBoundForm::Equal => Ok(TypeBound::Equal(bytes.number(DecodeReason::BadNumber)?)),
+        TypeBoundForm::Equal => Ok(TypeBound::Equal(read_index(bytes)?)),
         TypeBoundForm::SubResource => Ok(TypeBound::SubResource),
     }
 }

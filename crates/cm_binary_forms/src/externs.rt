@@ -8,6 +8,7 @@ ghost use Rattle.cm_binary_model.specs.declared.externs.Export.{Export};
 ghost use Rattle.cm_binary_forms.specs.Externs.{extern_desc, extern_desc_of, import_item};
 ghost use Rattle.cm_binary_forms.specs.Externs.{export_item};
 
+use crate::indices::read_index;
 use crate::sections::Items;
 use crate::{DecodeReason, DescForm, NoDescription, read_extern_name};
 use cm_binary_grammar::{Cursor, Form, ReadError};
@@ -39,8 +40,8 @@ fn read_desc(bytes: &mut Cursor<'_, DecodeReason>) -> Result<ExternDesc, ReadErr
     ensures end { bytes.new.end ≡ bytes.old.end }
 {
     match bytes.code()? {
-        DescForm::Func => Ok(ExternDesc::Func(bytes.number(DecodeReason::BadNumber)?)),
-        DescForm::Instance => Ok(ExternDesc::Instance(bytes.number(DecodeReason::BadNumber)?)),
+        DescForm::Func => Ok(ExternDesc::Func(read_index(bytes)?)),
+        DescForm::Instance => Ok(ExternDesc::Instance(read_index(bytes)?)),
     }
 }
 
@@ -58,7 +59,7 @@ impl Form<DecodeReason, Items> for Export {
     ) -> Result<Self, ReadError<DecodeReason>> {
         let name = read_extern_name(alloc, bytes)?;
         let sort = bytes.code()?;
-        let index = bytes.number(DecodeReason::BadNumber)?;
+        let index = read_index(bytes)?;
         let NoDescription::Absent = bytes.code()?;
         Ok(Export { name, sort, index })
     }

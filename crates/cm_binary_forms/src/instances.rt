@@ -10,6 +10,7 @@ ghost use Rattle.cm_binary_forms.specs.Texts.{vector};
 ghost use Rattle.cm_binary_forms.specs.Instances.{core_arg, core_export, core_instance};
 ghost use Rattle.cm_binary_forms.specs.Instances.{core_instance_of, inline_export, instance_item};
 
+use crate::indices::read_index;
 use crate::sections::Items;
 use crate::{CoreInstanceForm, DecodeReason, InstanceForm, read_extern_name, read_text};
 use cm_binary_grammar::{Cursor, Form, ReadError, read_vec};
@@ -32,7 +33,7 @@ impl Form<DecodeReason, Items> for CoreInstantiationArg {
     ) -> Result<Self, ReadError<DecodeReason>> {
         let name = read_text(alloc, bytes)?;
         bytes.byte(0x12, DecodeReason::UnknownCode)?;
-        let instance = bytes.number(DecodeReason::BadNumber)?;
+        let instance = read_index(bytes)?;
         Ok(CoreInstantiationArg { name, instance })
     }
 }
@@ -51,7 +52,7 @@ impl Form<DecodeReason, Items> for CoreInlineExport {
     ) -> Result<Self, ReadError<DecodeReason>> {
         let name = read_text(alloc, bytes)?;
         let sort = bytes.code()?;
-        let index = bytes.number(DecodeReason::BadNumber)?;
+        let index = read_index(bytes)?;
         Ok(CoreInlineExport { name, sort, index })
     }
 }
@@ -70,7 +71,7 @@ impl Form<DecodeReason, Items> for CoreInstance {
     ) -> Result<Self, ReadError<DecodeReason>> {
         match bytes.code()? {
             CoreInstanceForm::Instantiate => {
-                let module = bytes.number(DecodeReason::BadNumber)?;
+                let module = read_index(bytes)?;
                 let args = read_vec::<_, Items, _>(alloc, bytes, DecodeReason::BadNumber)?;
                 Ok(CoreInstance::Instantiate { module, args })
             }
@@ -96,7 +97,7 @@ impl Form<DecodeReason, Items> for InlineExport {
     ) -> Result<Self, ReadError<DecodeReason>> {
         let name = read_extern_name(alloc, bytes)?;
         let sort = bytes.code()?;
-        let index = bytes.number(DecodeReason::BadNumber)?;
+        let index = read_index(bytes)?;
         Ok(InlineExport { name, sort, index })
     }
 }

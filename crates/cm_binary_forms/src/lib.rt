@@ -12,6 +12,7 @@ mod declarations;
 mod externs;
 mod fault;
 mod file;
+mod indices;
 mod instances;
 mod sections;
 mod texts;

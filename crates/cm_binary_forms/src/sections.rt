@@ -14,6 +14,7 @@ ghost use Rattle.cm_binary_forms.specs.Contents.{contents_tree};
 ghost use Rattle.cm_binary_forms.specs.Sections.{contents, section, sections, room_after};
 
 use crate::contents::Contents;
+use crate::indices::read_index;
 use crate::{DecodeReason, SectionKind, Types, read_text};
 use cm_binary_grammar::{Cursor, End, Form, ReadError, read_stocked, read_vec};
 use cm_binary_model::{MAX_TYPES, MODULE_PREAMBLE, Section, types_in};
@@ -145,7 +146,7 @@ pub fn read_section(
     ensures end { bytes.new.end ≡ bytes.old.end }
 {
     let kind = bytes.code()?;
-    let size = bytes.number(DecodeReason::BadNumber)?;
+    let size = read_index(bytes)?;
     read_section_of_size(alloc, bytes, room, kind, size)
 }
 

@@ -12,6 +12,7 @@ ghost use Rattle.cm_binary_forms.specs.declared.fault.DecodeReason.TheVariants a
 ghost use Rattle.cm_binary_forms.specs.Texts.{text, label, plain_name, extern_name};
 
 use crate::fault::DecodeReason;
+use crate::indices::read_index;
 use cm_binary_grammar::{Cursor, ReadError};
 use cm_types::{ExternName, Label, NameFault};
 use std::alloc::{AllocError, Global};
@@ -54,7 +55,7 @@ pub fn read_text(
     ensures read { Reads text string_bytes bytes.old bytes.new result }
     ensures end { bytes.new.end ≡ bytes.old.end }
 {
-    let length = bytes.number(DecodeReason::BadNumber)?;
+    let length = read_index(bytes)?;
     let text = read_utf8(bytes, length)?;
     Ok(String::from_str(alloc, text)?)
 }
@@ -81,7 +82,7 @@ pub fn read_label(
     ensures read { Reads label (λ x. x) bytes.old bytes.new result }
     ensures end { bytes.new.end ≡ bytes.old.end }
 {
-    let length = bytes.number(DecodeReason::BadNumber)?;
+    let length = read_index(bytes)?;
     let fault = bytes.fault(DecodeReason::BadName);
     let text = read_utf8(bytes, length)?;
     match as_label(alloc, text)? {
@@ -125,7 +126,7 @@ pub fn read_plain_name(
     ensures read { Reads plain_name (λ x. x) bytes.old bytes.new result }
     ensures end { bytes.new.end ≡ bytes.old.end }
 {
-    let length = bytes.number(DecodeReason::BadNumber)?;
+    let length = read_index(bytes)?;
     let fault = bytes.fault(DecodeReason::BadName);
     let text = read_utf8(bytes, length)?;
     match as_extern_name(alloc, text)? {

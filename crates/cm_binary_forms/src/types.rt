@@ -14,6 +14,7 @@ ghost use Rattle.cm_binary_forms.specs.Types.{optional, type_index, val_type, pa
 ghost use Rattle.cm_binary_forms.specs.Types.{def_val_type_of, func_result_of, func_result};
 ghost use Rattle.cm_binary_forms.specs.Types.{func_type, def_type, def_type_from};
 
+use crate::indices::read_index;
 use crate::{DecodeReason, OptionalForm, ResultForm, TypeForm, ValueForm, read_label};
 use cm_binary_grammar::{Cursor, Form, ReadError, StockedForm, read_stocked, read_vec};
 use cm_binary_model::types_in_def;
@@ -170,7 +171,7 @@ fn read_optional_index(
 {
     match bytes.code()? {
         OptionalForm::Absent => Ok(None),
-        OptionalForm::Present => Ok(Some(bytes.number(DecodeReason::BadNumber)?)),
+        OptionalForm::Present => Ok(Some(read_index(bytes)?)),
     }
 }
 
@@ -217,7 +218,7 @@ pub(crate) fn read_def_val_type(
         ValueForm::List => Ok(DefValType::List(read_val_type(bytes)?)),
         ValueForm::FixedList => {
             let element = read_val_type(bytes)?;
-            let length = bytes.number(bad)?;
+            let length = read_index(bytes)?;
             Ok(DefValType::FixedList { element, length })
         }
         ValueForm::Tuple => Ok(DefValType::Tuple(read_vec::<_, Types, _>(alloc, bytes, bad)?)),
@@ -229,8 +230,8 @@ pub(crate) fn read_def_val_type(
             let error = read_optional_val_type(bytes)?;
             Ok(DefValType::Result { ok, error })
         }
-        ValueForm::Own => Ok(DefValType::Own(bytes.number(bad)?)),
-        ValueForm::Borrow => Ok(DefValType::Borrow(bytes.number(bad)?)),
+        ValueForm::Own => Ok(DefValType::Own(read_index(bytes)?)),
+        ValueForm::Borrow => Ok(DefValType::Borrow(read_index(bytes)?)),
     }
 }
 

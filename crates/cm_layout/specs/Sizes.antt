@@ -19,12 +19,12 @@ case_count (carrying l t cs) = suc (case_count cs)
 abbrev pub discriminant_size : ℕ → ℕ
 discriminant_size n = if nat_le n 256 then 1 else if nat_le n 65536 then 2 else 4
 
--- the size of a set of labels, which is its alignment too
+-- the size of a set of labels, which is its alignment too (`elem_size_flags`)
 abbrev pub flags_size : ℕ → ℕ
 flags_size n = if nat_le n 8 then 1 else if nat_le n 16 then 2 else 4
 
 abbrev mutual
-  -- the alignment of a type
+  -- the alignment of a type (`alignment`)
   pub align_of : Ty → ℕ
   align_of bool = 1
   align_of (signed w) = width_bytes w
@@ -55,7 +55,7 @@ abbrev pub payload_offset : Cases → ℕ
 payload_offset cs = align_to (align_of_payloads cs) (discriminant_size (case_count cs))
 
 abbrev mutual
-  -- the size of a type
+  -- the size of a type (`elem_size`)
   pub size_of : Ty → ℕ
   size_of bool = 1
   size_of (signed w) = width_bytes w

@@ -38,7 +38,7 @@ pub fn align(ty: &TypeTree) -> u32
     node_head(&ty.root).align
 }
 
-/// The size of a type in bytes, a multiple of its alignment (CanonicalABI.md, "Element Size").
+/// The size of a type in bytes, a multiple of its alignment (CanonicalABI.md, `elem_size`).
 pub fn size(ty: &TypeTree) -> u32
     ensures value { result ≡ size_of (tree_type ty.now) }
     ensures multiple { (k : ℕ) × (result ≡ k * align_of (tree_type ty.now)) }
