@@ -62,7 +62,8 @@ pub fn headline()
     ensures tidies { Always PostReturnGetsTheFlatResult }
     // Allocators are asked for exactly what the value asks for, in order.
     ensures asks { Always AsksForWhatTheValueWants }
-    // Of a value on its way no more is kept than it has parts and handles.
+    // Of a value on its way no more is kept than it has parts and handles, with at most three
+    // members for each in all lists together; where none is on its way, no list has a member.
     ensures bounded { Always KeepsFew }
     // A memory changes by writes and growths of its own instance, and where a value is handed over:
     // there inside the regions that were answered, by the bytes of the value alone.

@@ -1,5 +1,5 @@
 -- Why no more is kept along a history than values have parts and handles.
-use Rattle.std.proofs.Common.{◌≡◌, ℕ, ◌+◌, ◌≤◌, List, [], ◌∷◌, length, Some, None, sym, ap, subst}
+use Rattle.std.proofs.Common.{◌≡◌, ℕ, ◌+◌, ◌*◌, ◌≤◌, Option, List, [], ◌∷◌, length, Some, None, sym, ap, subst}
 use Rattle.std.proofs.Common.{◌∙◌, arith}
 use Rattle.std.specs.Prelude.{⊤}
 use Rattle.std.proofs.lemmas.Option.{same_Some}
@@ -10,6 +10,8 @@ use Rattle.cm_abi_model.specs.Requests.{call_parts, parts_of, tuple_of}
 use Rattle.cm_abi_model.specs.Views.{Way, params, results}
 use Rattle.cm_abi_model.specs.Answering.{places_of}
 use Rattle.cm_abi_model.specs.RecordRequests.{tags_of}
+use Rattle.cm_abi_model.specs.Scanned.{IsInOrder, Scanned, all_kept, things_kept}
+use Rattle.cm_abi_model.specs.declared.record.PartRecord.{PartRecord}
 use Rattle.cm_machine_model.specs.declared.frame.Call.{Call}
 use Rattle.cm_machine_model.specs.declared.frame.Frame.{Frame}
 use Rattle.cm_machine_model.specs.declared.frame.Phase.{Phase}
@@ -20,8 +22,9 @@ use Rattle.cm_machine_model.specs.Passages.{Carries, HasAnswers, asked_for}
 use Rattle.cm_machine_model.specs.Plan.{Link, Plan, Reaches, giver_side, receiver_side, types_of}
 use Rattle.cm_machine_model.specs.State.{Passage, State}
 use Rattle.cm_machine_model.specs.Valid.{PassesAtTop, PassesFor, PassesIn}
+use Rattle.cm_machine_model.specs.Work.{IsKeptOf, IsValueOf}
 use Rattle.cm_machine_told.specs.Always.{Always}
-use Rattle.cm_machine_told.specs.Bounds.{BorrowsFew, IsBounded, IsBoundedBy, KeepsFew, LendsFew}
+use Rattle.cm_machine_told.specs.Bounds.{BorrowsFew, IsBounded, IsBoundedBy, KeepsFew, KeepsNothing, LendsFew}
 use Rattle.cm_machine_told.specs.Doing.{Doing, LoweredCall, body, destroys, doing, handing, placing}
 use Rattle.cm_machine_told.specs.Doing.{root, tidying}
 use Rattle.cm_machine_told.specs.Matching.{AllMatch, MatchIn, MatchOne}
@@ -31,6 +34,17 @@ use Rattle.cm_machine_laws.proofs.Few.{call_few, met_few, places_few}
 use Rattle.cm_machine_laws.proofs.FollowAlong.{IsFollowedAlong, IsTold, StaysValid}
 use Rattle.cm_abi_model.proofs.TellingLaws.{as_many}
 
+-- what is kept in order has at most three members for each record and handle
+in_order : (k : Scanned) → IsInOrder k → all_kept k ≤ 3 * things_kept k
+in_order k order = omega (arith, order.places, order.handed, order.numbers)
+
+-- where nothing is on its way, no list has a member
+nothing : (o : Option Passage) → o ≡ None → KeepsNothing o
+nothing o none = record {
+  passage = none;
+  all = λ k is. omega (arith, in_order k is.order, is.order.empty (subst (λ (x : Option Passage). IsValueOf x k) none is.value));
+}
+
 -- what is kept of a value that is on its way
 bounded : (s : State) (memory : List ℕ) (l : Link) (way : Way) (p : Passage) (v : Val) (rs : List Request) (answers : List ℕ) → s.passage ≡ Some p → Carries memory l way p v → asked_for l way p v ≡ rs → HasAnswers rs answers p
     → IsBounded s.passage (parts_of way (types_of l way) v)
@@ -38,6 +52,8 @@ bounded s memory l way p v rs answers at_top c asks has = record {
   records = λ o e. subst (λ (x : Passage). length x.records ≤ parts_of way (types_of l way) v) (same_Some p o (sym at_top ∙ e)) (omega (arith, records, few));
   places = λ o e. subst (λ (x : Passage). length x.places ≤ parts_of way (types_of l way) v) (same_Some p o (sym at_top ∙ e)) (omega (arith, places, few));
   handles = λ o e. subst (λ (x : Passage). length x.leaves ≤ parts_of way (types_of l way) v) (same_Some p o (sym at_top ∙ e)) (omega (arith, handles, few));
+  things = things;
+  all = λ k is. omega (arith, in_order k is.order, things k is);
 } where
   few : length (call_parts way (types_of l way) v) + length (leaves_in (tuple_of (types_of l way)) v) ≤ parts_of way (types_of l way) v
   few = call_few way (types_of l way) v
@@ -47,6 +63,11 @@ bounded s memory l way p v rs answers at_top c asks has = record {
 
   handles : length p.leaves ≡ length (leaves_in (tuple_of (types_of l way)) v)
   handles = ap (λ (ls : List HandleLeaf). length ls) c.handles
+
+  things : (k : Scanned) → IsKeptOf s.passage k → things_kept k ≤ parts_of way (types_of l way) v
+  things k is =
+      let value = subst (λ (x : Option Passage). IsValueOf x k) at_top is.value in
+      omega (arith, records, handles, few, ap (λ (rs : List PartRecord). length rs) value.0, ap (λ (ls : List HandleLeaf). length ls) value.1)
 
   places : length p.places ≤ length (call_parts way (types_of l way) v)
   places =
@@ -85,13 +106,13 @@ silent plan s [] p m = p
 silent plan s (f ∷ fs) p m = absurd m
 
 bounded_by : (plan : Plan) (s : State) (ds : List Doing) → PassesAtTop plan s s.stack → AllMatch plan s.stack ds → AreFollowed s ds → IsBoundedBy ds s
-bounded_by plan s [] p m f = silent plan s s.stack p m
-bounded_by plan s (root i ∷ ds) p m f = quiet plan s s.stack (root i) ds p m tt
+bounded_by plan s [] p m f = nothing s.passage (silent plan s s.stack p m)
+bounded_by plan s (root i ∷ ds) p m f = nothing s.passage (quiet plan s s.stack (root i) ds p m tt)
 bounded_by plan s (placing x asked ∷ ds) p m f = (f.0.v, f.0.sent, bounded s _ x.link params f.0.passage f.0.v _ _ f.0.passage_is f.0.carried f.0.requests_are f.0.answered)
-bounded_by plan s (body x asked ∷ ds) p m f = quiet plan s s.stack (body x asked) ds p m tt
+bounded_by plan s (body x asked ∷ ds) p m f = nothing s.passage (quiet plan s s.stack (body x asked) ds p m tt)
 bounded_by plan s (handing x asked r more ∷ ds) p m f = (f.0.1.v, f.0.1.returned, bounded s _ x.link results f.0.1.passage f.0.1.v _ _ f.0.1.passage_is f.0.1.carried f.0.1.requests_are f.0.1.answered)
-bounded_by plan s (tidying x asked r more ∷ ds) p m f = quiet plan s s.stack (tidying x asked r more) ds p m tt
-bounded_by plan s (destroys dropper i ∷ ds) p m f = quiet plan s s.stack (destroys dropper i) ds p m tt
+bounded_by plan s (tidying x asked r more ∷ ds) p m f = nothing s.passage (quiet plan s s.stack (tidying x asked r more) ds p m tt)
+bounded_by plan s (destroys dropper i ∷ ds) p m f = nothing s.passage (quiet plan s s.stack (destroys dropper i) ds p m tt)
 
 borrows_few : (x : LoweredCall) → BorrowsFew x
 borrows_few x v sent = met_few (sender_view x) params (types_of x.link params) (sent_slots x) v

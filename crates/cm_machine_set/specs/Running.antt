@@ -2,6 +2,7 @@
 use Rattle.std.specs.Prelude.{◌≡◌, ℕ, Bool, true, false, List, [], ◌∷◌}
 use Rattle.cm_abi_model.specs.declared.leaf.HandleLeaf.{HandleLeaf}
 use Rattle.cm_abi_model.specs.declared.leaf.HandleLeaf.TheVariants as leaf
+use Rattle.cm_abi_model.specs.Scanned.{Scanned}
 use Rattle.cm_machine_model.specs.declared.event.Event.{Event}
 use Rattle.cm_machine_model.specs.declared.moves.Move.{Move}
 use Rattle.cm_machine_model.specs.History.{Action, IsHistoryOf, Occurrence, moves}
@@ -15,10 +16,11 @@ use Rattle.cm_machine_links.specs.Planned.{ArePlanned}
 use Rattle.cm_machine_links.specs.Planning.{IsPlanOf}
 use Rattle.cm_validate_model.specs.Spaces.{Spaces}
 
--- What each core function stands for, and the state.
+-- What each core function stands for, the state, and what is kept of the value on its way.
 pub record RunningSet : Type 0 where
   pub links : Links
   pub state : State
+  pub kept : Scanned
 
 -- A set that nothing has happened to: it stands for the plan of what was linked, with these numbers
 -- of pages.

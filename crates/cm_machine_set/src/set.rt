@@ -6,6 +6,7 @@ ghost use Rattle.std.specs.Prelude.{◌==◌, false, filter, true, vec_capacity}
 ghost use Rattle.std.specs.Option.{option_copied, option_map};
 ghost use Rattle.std.specs.Result.{result_err};
 ghost use Rattle.cm_machine_model.specs.declared.event.Event.TheVariants as event;
+ghost use Rattle.cm_machine_model.specs.declared.event.Trap.{Trap};
 ghost use Rattle.cm_abi_model.specs.Bytes.{AreBytes};
 ghost use Rattle.cm_abi_model.specs.HandleLeaves.{leaves_of, owned_in};
 ghost use Rattle.cm_machine_model.specs.History.{WritesBytes, begins, moves};
@@ -16,7 +17,7 @@ ghost use Rattle.cm_machine_model.specs.Stack.{actor, top_of};
 ghost use Rattle.cm_machine_model.specs.State.{are_page_counts};
 ghost use Rattle.cm_machine_model.specs.Step.{Step};
 ghost use Rattle.cm_machine_model.specs.Valid.{IsValidState};
-ghost use Rattle.cm_machine_model.specs.Work.{work_of};
+ghost use Rattle.cm_machine_model.specs.Work.{IsKeptOf, work_of};
 ghost use Rattle.cm_machine_links.specs.Planned.{ArePlanned};
 ghost use Rattle.cm_machine_parts.specs.Kept.{Runs};
 ghost use Rattle.cm_machine_parts.specs.Rows.{event_of};
@@ -60,7 +61,11 @@ impl Model for Set {
     ghost use Rattle.cm_machine_parts.specs.Kept.{Runs};
     ghost use Rattle.cm_machine_parts.specs.States.{state_of};
 
-    ghost view = { λ s. record { links = s.links; state = state_of s.state } };
+    ghost view = { λ s. record {
+      links = s.links;
+      state = state_of s.state;
+      kept = s.state.passing.scan;
+    } };
 
     ghost invariant = { λ s. (plan : Plan) × ArePlanned plan s.links × Runs plan s.state };
 }
@@ -84,6 +89,13 @@ fn owned_count(handles: &[HandleLeaf]) -> usize
     ensures { result ≡ length (owned_in (leaves_of handles.now)) }
 {
     count_owned(handles)
+}
+
+/// What is kept in a set's lists is what is on its way.
+fn what_is_kept(state: &State)
+    ensures { IsKeptOf (state_of state.now).passage state.now.passing.scan }
+{
+    let _value = state.passing.scan.has_value();
 }
 
 /// How many of these lends are to the call at a place of the stack.
@@ -117,6 +129,7 @@ fn begin_root(state: &mut State, instance: u32)
     requires empty { state.old.stack.frames ≡ [] }
     requires opened { slice_get state.old.closed.items instance ≡ Some false }
     ensures begun { state_of state.new ≡ after_begin (state_of state.old) instance }
+    ensures kept { state.new.passing ≡ state.old.passing }
     ensures runs { (plan : Plan) → Runs plan state.old → Runs plan state.new }
 {
     machine_starts_valid();
@@ -164,14 +177,29 @@ fn step_at(
         → Runs plan state.new }
     ensures goes_on { is_last (event_of result values.new) ≡ false
         → 0 < length state.new.stack.frames }
+    ensures none { (t : Trap) → result ≡ Outcome.Trapped t → values.new ≡ [] }
 {
     machine_stays_valid();
     match advance(alloc, links, state, top, made, values) {
-        Ok(outcome) => outcome,
+        Ok(outcome) => {
+            forget_behind_trap(outcome, values);
+            outcome
+        }
         Err(trap) => {
             close_all(state);
+            *values = Flat::new();
             Outcome::Trapped(trap)
         }
+    }
+}
+
+/// Behind a trap there are no core values.
+fn forget_behind_trap(outcome: Outcome, values: &mut Flat)
+    ensures event { event_of outcome values.new ≡ event_of outcome values.old }
+    ensures none { (t : Trap) → outcome ≡ Outcome.Trapped t → values.new ≡ [] }
+{
+    if let Outcome::Trapped(_) = outcome {
+        *values = Flat::new();
     }
 }
 
@@ -278,19 +306,17 @@ impl Set {
     }
 
     /// How much is kept of the topmost call: records of parts and resources of the value on its
-    /// way, and handles that are lent; all 0 where there is none. Takes no memory.
+    /// way, and handles that are lent; all 0 where there is none. These are the lengths of the
+    /// lists that are kept. Takes no memory.
     pub fn work(&self) -> Work
-        ensures { result ≡ work_of self.now.state }
+        ensures work { result ≡ work_of self.now.state }
+        ensures records { result.records ≡ length self.now.kept.parts.records }
+        ensures handles { result.handles ≡ length (owned_in self.now.kept.handles) }
     {
+        what_is_kept(&self.state);
         let passing = &self.state.passing;
-        let (records, handles) = if passing.scan.has_value() {
-            (
-                passing.scan.records().len(),
-                owned_count(passing.scan.handles()),
-            )
-        } else {
-            (0, 0)
-        };
+        let records = passing.scan.records().len();
+        let handles = owned_count(passing.scan.handles());
         let lends = match self.state.stack.top_call() {
             Some(place) => lend_count(self.state.lends.as_slice(), place),
             None => 0,
@@ -330,7 +356,7 @@ impl Set {
     }
 
     /// One move of the acting instance: what it leads to, with its core values in place of those
-    /// that were there.
+    /// that were there; a trap leaves none.
     ///
     /// Misuse: `Idle` where the stack is empty. State and values are then unchanged.
     pub fn step_in(&mut self, made: &Move, values: &mut Flat) -> Result<Outcome, Misuse>
@@ -345,6 +371,8 @@ impl Set {
             → 0 < length self.new.state.stack) }
         ensures planned { self.new.links ≡ self.old.links }
         ensures idle { IsErrOf result Misuse.Idle ↔ (self.old.state.stack ≡ []) }
+        ensures kept { OnOk result (IsKeptOf self.new.state.passage self.new.kept) }
+        ensures trapped { IfOk result (λ o. (t : Trap) → o ≡ Outcome.Trapped t → values.new ≡ []) }
         ensures only { IfErr result (λ m. m ≡ Misuse.Idle) }
         ensures err { OnErr result ((self.new ≡ self.old) × (values.new ≡ values.old)) }
     {
@@ -353,7 +381,9 @@ impl Set {
         };
         histories_are_valid();
         moves_write_bytes(made);
-        Ok(step_at(self.alloc, &self.links, &mut self.state, &top, made, values))
+        let outcome = step_at(self.alloc, &self.links, &mut self.state, &top, made, values);
+        what_is_kept(&self.state);
+        Ok(outcome)
     }
 
     /// One move of the acting instance, and the event that it leads to.
@@ -369,6 +399,7 @@ impl Set {
         ensures goes_on { IfOk result (λ e. is_last e ≡ false → 0 < length self.new.state.stack) }
         ensures planned { self.new.links ≡ self.old.links }
         ensures idle { IsErrOf result Misuse.Idle ↔ (self.old.state.stack ≡ []) }
+        ensures kept { OnOk result (IsKeptOf self.new.state.passage self.new.kept) }
         ensures only { IfErr result (λ m. m ≡ Misuse.Idle) }
         ensures err { OnErr result (self.new ≡ self.old) }
     {
