@@ -1,6 +1,7 @@
 pub mod Numbers
 pub mod Events
 pub mod Memories
+pub mod Moves
 pub mod Exchange
 pub mod Plan
 pub mod Plans

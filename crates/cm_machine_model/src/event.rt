@@ -3,6 +3,7 @@
 ghost use Rattle.std.specs.Prelude.{◌≡◌};
 
 use crate::flat::Flat;
+use cm_types::CoreValue;
 use std::fmt;
 use thiserror::Error;
 
@@ -53,7 +54,7 @@ pub enum Event {
 }
 
 impl Event {
-    ghost use Rattle.cm_machine_model.specs.Events.{is_last};
+    ghost use Rattle.cm_machine_model.specs.Events.{is_last, values_in};
 
     /// Whether a run stops after this event: the stack is empty then.
     pub fn is_last(&self) -> bool
@@ -61,6 +62,73 @@ impl Event {
     {
         matches!(self, Event::Ended | Event::Trapped(_))
     }
+
+    /// The core values that the event hands to the instance that acts next: arguments, results, or
+    /// the representation for a destructor; none for the other events. Takes no memory.
+    pub fn values(&self) -> Flat
+        ensures { result ≡ values_in self.now }
+    {
+        match self {
+            Event::Enter { args, .. }
+            | Event::Realloc { args, .. }
+            | Event::PostReturn { args, .. } => args.copied(),
+            Event::Resume { values, .. } => values.copied(),
+            Event::Dtor { rep, .. } => Flat::one(CoreValue::I32(*rep)),
+            Event::Done | Event::Grown(_) | Event::Trapped(_) | Event::Ended => Flat::new(),
+        }
+    }
+}
+
+/// The line that `component_tool play` prints, and behind the number of a trap its name and what it
+/// means.
+impl fmt::Display for Event {
+    fn fmt<W: fmt::Write>(&self, f: &mut fmt::Formatter<W>) -> fmt::Result {
+        match self {
+            Event::Done => f.write_str("done"),
+            Event::Grown(Some(pages)) => write!(f, "grown {pages}"),
+            Event::Grown(None) => f.write_str("grown none"),
+            Event::Enter {
+                instance,
+                func,
+                args,
+            } => write!(f, "enter {instance} {func}{args}"),
+            Event::Realloc {
+                instance,
+                func,
+                args,
+            } => {
+                write!(f, "realloc {instance} {func}")?;
+                write_numbers(f, args.as_slice())
+            }
+            Event::Resume { instance, values } => write!(f, "resume {instance}{values}"),
+            Event::PostReturn {
+                instance,
+                func,
+                args,
+            } => write!(f, "postreturn {instance} {func}{args}"),
+            Event::Dtor {
+                instance,
+                func,
+                rep,
+            } => write!(f, "dtor {instance} {func} {rep}"),
+            Event::Trapped(trap) => {
+                let number = trap.number();
+                write!(f, "trapped {number}: {trap:?}, {trap}")
+            }
+            Event::Ended => f.write_str("ended"),
+        }
+    }
+}
+
+/// Writes core values without their kinds, each after a space.
+fn write_numbers<W: fmt::Write>(f: &mut fmt::Formatter<W>, values: &[CoreValue]) -> fmt::Result {
+    for value in values {
+        match value {
+            CoreValue::I32(number) => write!(f, " {number}")?,
+            CoreValue::I64(number) => write!(f, " {number}")?,
+        }
+    }
+    Ok(())
 }
 
 /// Why a move was refused.

@@ -5,6 +5,7 @@ ghost use Rattle.cm_types.specs.declared.core_value.CoreValue.{CoreValue};
 
 use arrayvec::ArrayVec;
 use cm_types::{CoreValue, MAX_FLAT_PARAMS};
+use std::fmt;
 use std::marker::Model;
 
 /// At most `MAX_FLAT_PARAMS` core values, kept in place: making one takes no memory.
@@ -71,4 +72,25 @@ impl Flat {
     {
         self.values.as_slice()
     }
+}
+
+/// The values as scripts and events spell them, each after a space: ` i32:41 i64:7`.
+impl fmt::Display for Flat {
+    fn fmt<W: fmt::Write>(&self, f: &mut fmt::Formatter<W>) -> fmt::Result {
+        write_values(f, self.as_slice())
+    }
+}
+
+/// Writes core values as scripts and events spell them, each after a space.
+pub(crate) fn write_values<W: fmt::Write>(
+    f: &mut fmt::Formatter<W>,
+    values: &[CoreValue],
+) -> fmt::Result {
+    for value in values {
+        match value {
+            CoreValue::I32(number) => write!(f, " i32:{number}")?,
+            CoreValue::I64(number) => write!(f, " i64:{number}")?,
+        }
+    }
+    Ok(())
 }

@@ -7,34 +7,24 @@ use std::alloc::Global;
 use std::fs;
 
 /// A guest that adds one: where it is entered with a number, it answers the next one. As the root
-/// it calls its core function 0 with 41, and then returns. Where it has no memory for a value, it
-/// gives none.
+/// it calls its core function 0 with 41, and then returns. Where it has no memory for a move, it
+/// stops.
 #[derive(Drop)]
 struct AddOne(Global);
-
-impl AddOne {
-    fn one(&self, number: u32) -> Vec<CoreValue> {
-        Vec::from_array(self.0, [CoreValue::I32(number)]).unwrap_or(Vec::new(self.0))
-    }
-}
 
 impl Guest for AddOne {
     // Nothing is promised of what it does: what is proved of the machine holds all the same.
     ghost plays = { λ _ _. Unit {0} };
 
     fn next(&mut self, seen: &Event) -> Move {
-        let values = match seen {
-            Event::Enter { args, .. } => match args.as_slice() {
-                [CoreValue::I32(x)] => self.one(x.wrapping_add(1)),
-                _ => Vec::new(self.0),
-            },
-            Event::Resume { values, .. } if values.as_slice().is_empty() => {
-                let args = self.one(41);
-                return Move::Call { func: 0, args };
+        let made = match (seen, seen.values().as_slice()) {
+            (Event::Enter { .. }, [CoreValue::I32(x)]) => {
+                Move::ret(self.0, &[CoreValue::I32(x.wrapping_add(1))])
             }
-            _ => Vec::new(self.0),
+            (Event::Resume { .. }, []) => Move::call(self.0, 0, &[CoreValue::I32(41)]),
+            _ => Move::ret(self.0, &[]),
         };
-        Move::Return { values }
+        made.unwrap_or(Move::Unreachable)
     }
 }
 
@@ -51,7 +41,7 @@ fn main(rt: HostRuntime) -> Result<()> {
     let user = fs::read(&rt, "user.wasm")?;
     let mut set = load(rt.alloc(), &[&provider, &user], &[0, 0])?;
     for event in &drive(rt.alloc(), &mut set)? {
-        println!(rt; "{event:?}")?;
+        println!(rt; "{event}")?;
     }
     Ok(())
 }
