@@ -3,8 +3,10 @@
 A row that finds no memory is answered once more, so a refusal changes no answer: the call that was
 refused left all as it was. Three kinds of answers show the refusal themselves: a move of a set ends
 in trap 20 (and what comes behind it in the block is not judged), a play of the command ends in that
-trap or in a fault, and a list of answers has `Memory@PLACE`. A program that cannot read or print a
-row ends with status 1, and what it printed is a beginning.
+trap or in a fault, and a list of answers has `Memory@PLACE`, or `fault Memory` in the place of the
+first answer that differs (those behind it may cite it). A program that cannot read or print a
+row ends with status 1, and what it printed is a beginning; a row of which it cannot read a part is
+`no row` or `no memory` to it.
 """
 
 import re
@@ -15,6 +17,8 @@ from rows import run, write_block
 # for, and a handle that is made.
 WANTING = re.compile(r"grown \d|enter |realloc |postreturn |resume |trapped ")
 PLAYED = re.compile(r"status (\d), out (.*), err (.*)")
+UNREAD = ("no row", "no memory")
+DRIVEN = re.compile(r"misuse (Busy|Closed|Idle)( seats .*)?")
 TRAPPED = re.compile(r"(?:.*; )?trapped (?:EngineMemory \(last\)|20)(?: .*)?")
 
 
@@ -23,6 +27,19 @@ def lacks_within(line, wanted):
     words, others = line.split(" "), wanted.split(" ")
     return len(words) == len(others) and all(
         word == other or word.startswith("Memory@") for word, other in zip(words, others))
+
+
+def lacks_in_list(got, wanted):
+    """Whether the first of a list of answers that is not the wanted one is `fault Memory`."""
+    differing = [ours for ours, whole in zip(got.split(" ; "), wanted.split(" ; ")) if ours != whole]
+    return differing[:1] == ["fault Memory"]
+
+
+def lacks_in_drive(got, wanted):
+    """Whether a drive, or a run to its last event, was refused at its second time: the first found
+    no memory for its events, and left the set as its moves had left it."""
+    is_driven = " seats " in wanted or wanted.endswith("(last)")
+    return is_driven and bool(DRIVEN.fullmatch(got))
 
 
 def lacks_in_play(got, wanted):
@@ -52,12 +69,16 @@ def lacks_in_move(got, wanted):
         WANTING.match(events[len(before)]))
 
 
+# What shows the refusal, so that the rows behind it are not judged.
+LAST = (lacks_in_move, lacks_in_list, lacks_in_play, lacks_in_drive)
+
+
 def are_right(differing, rows):
     """Whether the rows that differ show the refusal."""
     for number, line in sorted(differing.items()):
         wanted = rows[number - 1][1]
         got = line.removeprefix(f"wanted {wanted}, got ")
-        if lacks_in_move(got, wanted) or lacks_in_play(got, wanted):
+        if got in UNREAD or any(it(got, wanted) for it in LAST):
             return True
         if not lacks_within(got, wanted):
             return False

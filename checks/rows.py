@@ -12,8 +12,9 @@ TOP = Path(__file__).resolve().parent.parent
 LIBRARY = TOP / "out" / "liballocations.so"
 MARK = " => "
 # The families of each program whose rows act on what the rows before them left: the words that
-# begin a block of them.
+# begin a block of them. No row begins with `#`, so such a family is one block.
 BLOCKS = {
+    "packages": ("#",),
     "runs": ("link",),
     "drives": ("link",),
     "tables": ("table new",),
@@ -49,7 +50,7 @@ def families_of(program):
 
 def spelled(text):
     """How many bytes the words of a row spell: `N*xx` and `\\N(x)` stand for N of it."""
-    times = re.findall(r"(\d+)\*([^ .,]*)", text) + re.findall(r"\\(\d+)\(([^)]*)\)", text)
+    times = re.findall(r"(?<!\d)(\d+)\*([^ .,]*)", text) + re.findall(r"\\(\d+)\(([^)]*)\)", text)
     return len(text) + sum(int(number) * len(part) for number, part in times)
 
 

@@ -48,11 +48,12 @@ impl Arena {
         })
     }
 
-    /// The types of `ITEM ; ITEM ..`.
+    /// The types of `ITEM ; ITEM ..`. Want of memory for one is kept as that of the row.
     pub fn read(alloc: Global, words: &[&str], line: &mut Line) -> Option<Arena> {
         let mut arena = Arena::new(alloc, line)?;
         for words in words.split(|word| *word == ";") {
-            arena.read_item(words, line);
+            let outcome = arena.read_item(words, line);
+            line.fail_if_memory(matches!(outcome, Outcome::Refused(DefFault::Memory)));
         }
         Some(arena)
     }

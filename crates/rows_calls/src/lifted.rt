@@ -93,8 +93,9 @@ pub fn pass(alloc: Global, call: &Call, table: &str, line: &mut Line)
     requires { (types : Fields) × IsOf call.now types }
 {
     let mut table = read_table(alloc, table, line);
-    let Ok(lifted) = lift_call(alloc, call, &mut table) else {
-        return line.refuse();
+    let lifted = match lift_call(alloc, call, &mut table) {
+        Ok(lifted) => lifted,
+        Err(fault) => return line.refuse_for(fault == AbiFault::EngineMemory),
     };
     let mut received = Table::new(alloc);
     let to = call.sides.to;
@@ -115,7 +116,7 @@ pub fn ask(alloc: Global, call: &Call, table: &str, line: &mut Line)
                 write_requests(line, &asked);
             }
         }
-        Err(_) => line.refuse(),
+        Err(fault) => line.refuse_for(fault == AbiFault::EngineMemory),
     }
 }
 
