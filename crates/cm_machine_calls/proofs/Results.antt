@@ -2,7 +2,7 @@
 use Rattle.std.proofs.Common.{◌≡◌, Bool, true, false, ℕ, List, ◌++◌, length, take, drop, refl, sym, subst, ◌∙◌}
 use Rattle.std.proofs.Math.Seq.{take-append_seam}
 use Rattle.std.proofs.lemmas.Option.{none-some}
-use Rattle.std.specs.Prelude.{IsSome, IsTrue, MatchResult, None, Option, Some, OnErr, Result, Ok, Err}
+use Rattle.std.specs.Prelude.{IfErr, IsSome, IsTrue, MatchResult, None, Option, Some, OnErr, OnOk, Result, Ok, Err}
 
 pub match_more : {T E : Type 0} (r : Result T E) (P Q : T → Type 0) (F G : E → Type 0) → ((x : T) → P x → Q x) → ((e : E) → F e → G e) → MatchResult r P F → MatchResult r Q G
 match_more (Ok x) P Q F G ok err m = ok x m
@@ -11,6 +11,11 @@ match_more (Err e) P Q F G ok err m = err e m
 pub err_more : {T E P Q : Type 0} (r : Result T E) → (P → Q) → OnErr r P → OnErr r Q
 err_more (Ok x) f m = m
 err_more (Err e) f m = f m
+
+-- what a success leaves and what an error says, in one
+pub match_of : {T E P Q : Type 0} (r : Result T E) (F : E → Type 0) → (P → Q) → OnOk r P → IfErr r F → MatchResult r (λ _. Q) F
+match_of (Ok x) F f ok err = f ok
+match_of (Err e) F f ok err = err
 
 pub not_true : (b : Bool) → b ≡ false → IsTrue b → ⊥
 not_true true is t = absurd (cc)

@@ -219,7 +219,7 @@ pub(crate) fn exit_call(state: &mut State, link: &Link, call: &Call, values: &mu
         }
         None => {
             if link.types.has_pointer {
-                *values = Flat::new();
+                values.clear();
             }
             end_call(state);
             Outcome::Resume {

@@ -22,8 +22,8 @@ use cm_abi::laws::one_copied_call;
 use cm_abi::{Passed, Scan, Way, scan};
 use cm_abi_requests::requesting_laws::records_ask_for_parts;
 use cm_handles::Table;
+use cm_machine_model::Trap;
 use cm_machine_model::state::{Lend, Place};
-use cm_machine_model::{Flat, Trap};
 use cm_machine_parts::{Link, State, put_owners};
 use cm_types::CoreValue;
 use std::alloc::Global;
@@ -118,7 +118,7 @@ pub(crate) fn lift_flat_values(
     }
     let travelling = Place::Travelling { frame: place };
     put_owners(&mut state.owners, state.passing.scan.handles(), travelling);
-    state.passing.slots = Flat::from_slice(slots);
+    state.passing.slots.set(slots);
     Ok(())
 }
 

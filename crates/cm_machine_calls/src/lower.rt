@@ -33,21 +33,29 @@ use cm_machine_parts::{Link, State};
 use cm_types::{CoreKind, CoreValue, MAX_FLAT_PARAMS};
 use std::alloc::Global;
 
-/// Puts a zero of each of these kinds in the place of as many core values.
-fn put_zeros(kinds: &[CoreKind], slots: &mut [CoreValue])
-    requires { length slots.old ≡ length kinds.now }
-    ensures { map kind_of slots.new ≡ kinds.now }
+/// The zero of this kind.
+fn zero_of(kind: CoreKind) -> CoreValue
+    ensures { kind_of result ≡ kind }
 {
-    for i in 0..kinds.len() {
-        slots[i] = match kinds[i] {
-            CoreKind::I32 => CoreValue::I32(0),
-            CoreKind::I64 => CoreValue::I64(0),
-        };
+    match kind {
+        CoreKind::I32 => CoreValue::I32(0),
+        CoreKind::I64 => CoreValue::I64(0),
+    }
+}
+
+/// Puts a zero of each of these kinds in place of all values that were there.
+fn put_zeros(kinds: &[CoreKind], values: &mut Flat)
+    requires { length kinds.now ≤ MAX_FLAT_PARAMS }
+    ensures { map kind_of values.new ≡ kinds.now }
+{
+    values.clear();
+    for kind in kinds {
+        values.push(zero_of(*kind));
     }
 }
 
 /// Copies a value that was scanned in one memory into another, and puts the core values that pass
-/// it, of these kinds, into `values`. Else nothing is changed but the room of lists.
+/// it, of these kinds, into `values`. Else nothing is changed but `values` and the room of lists.
 fn copy_into(
     kept: &mut Scan,
     from: &[u8],
@@ -74,20 +82,12 @@ fn copy_into(
     ensures length { length bytes.new.items ≡ length bytes.old.items }
     ensures kept_stays { kept.new ≡ record kept.old { numbers = kept.new.numbers } }
 {
-    let mut slots = [CoreValue::I32(0); MAX_FLAT_PARAMS];
-    let received = &mut slots[..kinds.len()];
-    put_zeros(kinds, received);
+    put_zeros(kinds, values);
     let found = Found {
         memory: from,
         passed: *passed,
     };
-    match copy(kept, bytes, table, received, to, &found) {
-        Ok(()) => {
-            *values = Flat::from_slice(received);
-            Ok(())
-        }
-        Err(fault) => Err(fault),
-    }
+    copy(kept, bytes, table, values.as_mut_slice(), to, &found)
 }
 
 /// Copies a value that was scanned in the memory of its giver to its receiver. The receiver's

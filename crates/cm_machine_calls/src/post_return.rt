@@ -41,10 +41,10 @@ pub(crate) fn return_post_return(
         return Err(Trap::CoreShape);
     }
     end_call(state);
-    *values = match answer {
-        Some(value) => Flat::one(value),
-        None => Flat::new(),
-    };
+    values.clear();
+    if let Some(value) = answer {
+        values.push(value);
+    }
     Ok(Outcome::Resume {
         instance: call.caller,
     })

@@ -49,7 +49,7 @@ pub(crate) fn ask(
         ∷ core_value.I32 request.align ∷ core_value.I32 request.size ∷ [] }
 {
     let Some(func) = realloc else { unreachable!() };
-    *values = Flat::from_slice(&[
+    values.set(&[
         CoreValue::I32(old),
         CoreValue::I32(request.old_size),
         CoreValue::I32(request.align),

@@ -16,3 +16,4 @@ pub mod History
 pub mod Owning
 pub mod Valid
 pub mod Work
+pub mod Lending

@@ -1,6 +1,7 @@
 //! Core values in place: a call passes at most `MAX_FLAT_PARAMS` of them.
 
 ghost use Rattle.std.specs.Prelude.{◌≡◌, ◌+◌, ◌<◌, ◌≤◌, [], ◌∷◌, ◌++◌, length, IfSome, IfNone};
+ghost use Rattle.std.specs.Borrow.{sem};
 ghost use Rattle.cm_types.specs.declared.core_value.CoreValue.{CoreValue};
 
 use arrayvec::ArrayVec;
@@ -29,6 +30,8 @@ impl Model for Flat {
 }
 
 impl Flat {
+    ghost use Rattle.cm_machine_model.specs.Lending.{lends_values};
+
     /// No values.
     pub fn new() -> Flat
         ensures { result ≡ [] }
@@ -53,9 +56,7 @@ impl Flat {
         ensures { result ≡ slice.now }
     {
         let mut values = ArrayVec::new();
-        for value in slice {
-            values.push(*value);
-        }
+        put_values(&mut values, slice);
         Flat { values }
     }
 
@@ -71,6 +72,48 @@ impl Flat {
         ensures { result.now ≡ self.now }
     {
         self.values.as_slice()
+    }
+
+    /// The values, in order, for writing in their places.
+    pub fn as_mut_slice(&mut self) -> &mut [CoreValue]
+        ensures* writes_back { sem 𝓛 (lends_values self.entry result) }
+        ensures value { result.now ≡ self.old }
+    {
+        self.values.as_mut_slice()
+    }
+
+    /// Puts the values of a slice of at most `MAX_FLAT_PARAMS` in place of all that were there.
+    pub fn set(&mut self, slice: &[CoreValue])
+        requires { length slice.now ≤ MAX_FLAT_PARAMS }
+        ensures { self.new ≡ slice.now }
+    {
+        put_values(&mut self.values, slice);
+    }
+
+    /// Takes all values away.
+    pub fn clear(&mut self)
+        ensures { self.new ≡ [] }
+    {
+        self.values.clear();
+    }
+
+    /// Puts a value behind the others, of which there are fewer than `MAX_FLAT_PARAMS`.
+    pub fn push(&mut self, value: CoreValue)
+        requires { length self.old < MAX_FLAT_PARAMS }
+        ensures { self.new ≡ self.old ++ value ∷ [] }
+    {
+        self.values.push(value);
+    }
+}
+
+/// Puts the values of a slice of at most `MAX_FLAT_PARAMS` in place of all that were there.
+fn put_values(values: &mut ArrayVec<CoreValue, MAX_FLAT_PARAMS>, slice: &[CoreValue])
+    requires { length slice.now ≤ MAX_FLAT_PARAMS }
+    ensures { values.new.items ≡ slice.now }
+{
+    values.clear();
+    for value in slice {
+        values.push(*value);
     }
 }
 

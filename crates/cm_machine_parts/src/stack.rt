@@ -1,7 +1,7 @@
 //! The stack of frames, of at most `MAX_FRAMES`, in room that is made once.
 
 ghost use Rattle.std.specs.Prelude.{◌≡◌, ◌<◌, ◌≤◌, [], ◌∷◌, length, IfOk, reverse, slice_index};
-ghost use Rattle.std.specs.Prelude.{slice_set};
+ghost use Rattle.std.specs.Prelude.{slice_set, vec_capacity, vec_len};
 ghost use Rattle.cm_machine_model.specs.Stack.{top_of, below_top};
 ghost use Rattle.cm_machine_model.specs.Work.{top_call};
 
@@ -102,11 +102,7 @@ impl Stack {
     {
         // Read first, so that the check knows what holds of the stack.
         let _ = &self.frames;
-        let _ = self.frames.pop();
-        match self.frames.push(frame) {
-            Ok(()) => {}
-            Err(_) => unreachable!(),
-        }
+        put_last(&mut self.frames, frame);
     }
 
     /// How many handles are borrowed for the call at a place of the stack.
@@ -125,6 +121,17 @@ impl Stack {
     {
         self.borrows[place] = count;
     }
+}
+
+/// Puts a frame in the place of the last one.
+fn put_last(frames: &mut Vec<Frame>, frame: Frame)
+    requires { 0 < vec_len frames.old }
+    ensures frames { reverse frames.new.items ≡ frame ∷ below_top (reverse frames.old.items) }
+    ensures len { vec_len frames.new ≡ vec_len frames.old }
+    ensures room { vec_capacity frames.new ≡ vec_capacity frames.old }
+{
+    let last = frames.len() - 1;
+    frames[last] = frame;
 }
 
 /// The place of the last of these frames that is one of a call.

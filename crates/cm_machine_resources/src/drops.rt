@@ -96,7 +96,7 @@ fn drop_owned(
 {
     let Some(func) = destructor else {
         release_owned(state, dropped);
-        *values = Flat::new();
+        values.clear();
         return Ok(Outcome::Resume {
             instance: dropped.instance,
         });
@@ -209,7 +209,7 @@ pub fn drop_resource(
         HandleKind::Owned => drop_owned(state, destructor, &dropped, values),
         HandleKind::Borrowed { call } => {
             drop_borrowed(state, call, &dropped);
-            *values = Flat::new();
+            values.clear();
             Ok(Outcome::Resume { instance })
         }
     }

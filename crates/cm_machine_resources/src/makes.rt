@@ -51,6 +51,6 @@ pub fn make_resource(
         Ok(index) => index,
         Err(trap) => return Err(trap),
     };
-    *values = Flat::one(CoreValue::I32(index));
+    values.set(&[CoreValue::I32(index)]);
     Ok(Outcome::Resume { instance })
 }

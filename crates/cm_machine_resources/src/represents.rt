@@ -40,7 +40,7 @@ pub fn represent(
     let table = &state.tables[instance as usize];
     match table.get(index, resource) {
         Ok(handle) => {
-            *values = Flat::one(CoreValue::I32(handle.rep));
+            values.set(&[CoreValue::I32(handle.rep)]);
             Ok(Outcome::Resume { instance })
         }
         Err(fault) => Err(trap_of_handle(fault)),

@@ -57,6 +57,6 @@ pub fn return_destructor(
         return Err(Trap::CoreShape);
     }
     pop_frame(state);
-    *values = Flat::new();
+    values.clear();
     Ok(Outcome::Resume { instance: dropper })
 }

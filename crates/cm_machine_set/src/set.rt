@@ -187,7 +187,7 @@ fn step_at(
         }
         Err(trap) => {
             close_all(state);
-            *values = Flat::new();
+            values.clear();
             Outcome::Trapped(trap)
         }
     }
@@ -199,7 +199,7 @@ fn forget_behind_trap(outcome: Outcome, values: &mut Flat)
     ensures none { (t : Trap) → outcome ≡ Outcome.Trapped t → values.new ≡ [] }
 {
     if let Outcome::Trapped(_) = outcome {
-        *values = Flat::new();
+        values.clear();
     }
 }
 

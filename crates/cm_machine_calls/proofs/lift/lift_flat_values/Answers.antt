@@ -51,7 +51,7 @@ returns-clause-lifts c = λ l call is.
     record { memory_is = sym (ap (λ o. unwrap_or o []) c.in-Some.ensures); table_is = table; encoding_is = refl } in
     let seen = c.in-Ok.ensures.looks l w is given in
     let ms = met w way (types_of l way) c.args.slots.now seen.v in
-    let slots : c.args.slots.now ≡ c.from_slice-state.result = sym c.from_slice-state.ensures in
+    let slots : c.args.slots.now ≡ c.set.new.self = sym c.set.ensures in
     let tables : handles_in (slice_set c.args.state.now.tables.items c.args.giver c.scan_flat_values.new.table) ≡ slice_set (handles_in c.args.state.now.tables.items) c.args.giver c.scan_flat_values.new.table.handles =
     handles_set c.args.state.now.tables.items c.args.giver c.scan_flat_values.new.table in
     record {
@@ -62,7 +62,7 @@ returns-clause-lifts c = λ l call is.
       is = ap {B = State} (λ (b : Bool). record (state_of c.args.state.now) {
         tables = handles_in (slice_set c.args.state.now.tables.items c.args.giver c.scan_flat_values.new.table);
         owners = c.put_owners.new.owners.items;
-        passage = if b then Some (passage_in c.from_slice-state.result c.scan_flat_values.new.kept) else None;
+        passage = if b then Some (passage_in c.set.new.self c.scan_flat_values.new.kept) else None;
       }) c.in-Ok.ensures.value
           ∙ lifted_same (state_of c.args.state.now) c.args.giver c.args.place ms _ _ _
           (tables ∙ ap (slice_set (handles_in c.args.state.now.tables.items) c.args.giver) seen.scans.lifts.1.table)

@@ -55,4 +55,4 @@ returns-in-Borrowed-clause-row c =
     let lt : i < length items = omega (arith, c.frames_have_instances.ensures.acts c.requires.runs.0 s c.args.top.now c.requires.runs.1.valid c.requires.top, c.tables_are_handles.ensures.count items, c.actor-instance.ensures) in
     let here : table_at s.tables i ≡ c.index-table.result.now.handles = c.tables_are_handles.ensures.read items i c.index-table.result.now lt c.index-table.ensures in
     let found : if_not_lent (look_up (table_at s.tables i) c.in-Some.index c.args.resource) ≡ Ok c.in-Ok.handle = ap (λ (t : Handles). if_not_lent (look_up t c.in-Some.index c.args.resource)) here ∙ (sym c.find.ensures ∙ c.in-Ok.is) in
-    drop_borrowed_at s c.args.top.now c.args.resource c.args.destructor c.args.args.now c.in-Some.index c.in-Ok.handle c.in-Borrowed.call i c.new.result (state_of c.drop_borrowed.new.state) c.actor-instance.ensures c.in-Some.ensures.0 (c.may_leave.ensures.0 cc) c.in-Some.ensures.1 found c.in-Borrowed.is c.new.ensures c.drop_borrowed.ensures.dropped
+    drop_borrowed_at s c.args.top.now c.args.resource c.args.destructor c.args.args.now c.in-Some.index c.in-Ok.handle c.in-Borrowed.call i c.clear.new.self (state_of c.drop_borrowed.new.state) c.actor-instance.ensures c.in-Some.ensures.0 (c.may_leave.ensures.0 cc) c.in-Some.ensures.1 found c.in-Borrowed.is c.clear.ensures c.drop_borrowed.ensures.dropped

@@ -35,7 +35,7 @@ returns-clause-row c =
     let lt : i < length items = omega (arith, c.frames_have_instances.ensures.acts c.requires.runs.0 s c.args.top.now c.requires.runs.1.valid c.requires.top, c.tables_are_handles.ensures.count items, c.actor-instance.ensures) in
     let here : table_at s.tables i ≡ old.handles = c.tables_are_handles.ensures.read items i old lt c.index_mut-table.ensures.value in
     let added : AddsResource (table_at s.tables i) s.owners i c.args.resource c.in-Some.rep (Ok c.in-Ok.index) new.handles c.add_resource.new.owners.items = subst (λ (t : Handles). AddsResource t s.owners i c.args.resource c.in-Some.rep (Ok c.in-Ok.index) new.handles c.add_resource.new.owners.items) (sym here) c.in-Ok.ensures in
-    made_at s c.args.top.now c.args.resource c.args.args.now c.in-Some.rep c.in-Ok.index new.handles c.add_resource.new.owners.items i c.one.result _ c.actor-instance.ensures c.in-Some.ensures.0 c.in-Some.ensures.1 (c.may_leave.ensures.0 cc) added c.one.ensures
+    made_at s c.args.top.now c.args.resource c.args.args.now c.in-Some.rep c.in-Ok.index new.handles c.add_resource.new.owners.items i c.set.new.self _ c.actor-instance.ensures c.in-Some.ensures.0 c.in-Some.ensures.1 (c.may_leave.ensures.0 cc) added c.set.ensures
     (ap (λ (ts : List Handles). record s { tables = ts; owners = c.add_resource.new.owners.items }) (c.tables_are_handles.ensures.changed items i new))
 
 pub returns-clause-kept : goal.returns-clause-kept

@@ -13,7 +13,7 @@ returns-in-Ok c =
     let lt : i < length items = omega (arith, c.frames_have_instances.ensures.acts c.requires.runs.0 s c.args.top.now c.requires.runs.1.valid c.requires.top, c.tables_are_handles.ensures.count items, c.actor-instance.ensures) in
     let here : table_at s.tables i ≡ c.index-table.result.now.handles = c.tables_are_handles.ensures.read items i c.index-table.result.now lt c.index-table.ensures in
     let found : look_up (table_at s.tables i) c.in-Some.index c.args.resource ≡ Ok c.in-Ok.handle = ap (λ (t : Handles). look_up t c.in-Some.index c.args.resource) here ∙ (sym c.get.ensures.answer ∙ c.in-Ok.is) in
-    told_at s c.args.top.now c.args.resource c.args.args.now c.in-Some.index c.in-Ok.handle i c.one.result c.actor-instance.ensures c.in-Some.ensures.0 c.in-Some.ensures.1 found c.one.ensures
+    told_at s c.args.top.now c.args.resource c.args.args.now c.in-Some.index c.in-Ok.handle i c.set.new.self c.actor-instance.ensures c.in-Some.ensures.0 c.in-Some.ensures.1 found c.set.ensures
 
 pub returns-in-Err : goal.returns-in-Err
 returns-in-Err c =
