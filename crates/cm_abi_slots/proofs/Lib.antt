@@ -1,0 +1,5 @@
+mod NumberLemmas
+mod StepLemmas
+mod LeafLaws
+mod SlotLaws
+mod CallLaws
