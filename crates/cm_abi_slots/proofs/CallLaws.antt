@@ -24,7 +24,7 @@ use Rattle.cm_abi_slots.specs.declared.steps.SlotStep.{SlotStep}
 use Rattle.cm_abi_slots.specs.declared.steps.SlotStep.TheVariants as step
 use Rattle.cm_abi_slots.specs.Passing.{FitsKind, IsFine, PassesNumbers, passed_by}
 use Rattle.cm_abi_slots.specs.Steps.{AreStepsOf, are_plain, steps_of_parts}
-use Rattle.cm_abi_slots.proofs.SlotLaws.{FaultAt, Faulty, Fine, FineAt, core_at, fields_read, puts_by, value_fine, value_stops}
+use Rattle.cm_abi_slots.proofs.SlotLaws.{FaultAt, Faulty, Fine, FineAt, core_at, fields_read, puts_by, value_fine, value_stops, wide_fields}
 use Rattle.cm_lemmas.proofs.Options.{none_some, some_is}
 
 abbrev pub step_at : List SlotStep → ℕ → SlotStep
@@ -141,6 +141,9 @@ chosen : {A : Type 0} (b c : Bool) (xs ys : A) → (if b then None else if c the
 chosen true c xs ys e = none_some ys e
 chosen false true xs ys e = (refl, refl, some_is xs ys e)
 chosen false false xs ys e = none_some ys e
+
+pub as_many_steps : (way : Way) (types : Fields) (steps : List SlotStep) → AreStepsOf way types steps → length steps ≡ length (flat_of_fields types)
+as_many_steps way types steps are = let told = chosen _ _ _ _ are in sym (ap length told.2) ∙ wide_fields types 0 told.1
 
 -- ---- a call
 

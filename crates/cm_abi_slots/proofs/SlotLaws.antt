@@ -107,7 +107,7 @@ mutual
   wide (own r) h = absurd (false_not_true h)
   wide (borrow r) h = absurd (false_not_true h)
 
-  wide_fields : (fs : Fields) (at : ℕ) → are_plain (parts_from (parts_at fs at)) ≡ true
+  pub wide_fields : (fs : Fields) (at : ℕ) → are_plain (parts_from (parts_at fs at)) ≡ true
       → length (steps_of_parts (parts_from (parts_at fs at))) ≡ length (flat_of_fields fs)
   wide_fields no_fields at h = refl
   wide_fields (field l t fs) at h =

@@ -5,6 +5,7 @@
 //! that no walk down the layout is needed is this project's own choice).
 #![tactic(auto)]
 
+pub mod laws;
 mod passing;
 mod steps;
 
