@@ -20,7 +20,8 @@
 //! TABLE TARGET TYPE.. = SLOT..`, from UTF-8 or UTF-16, by what lowering them asks for,
 //! `ALIGN:SIZE`, or `>ALIGN:OLD:SIZE` of a request that hands back what the one before it got; and
 //! `pass WAY SOURCE MEMORY TABLE INSTANCE TYPE.. = SLOT..` by the numbers of their handles at a
-//! receiver whose table is empty, and its table then.
+//! receiver whose table is empty, and its table then; `numbers WAY TYPE.. = SLOT..`, of types that
+//! are numbers alone, by the core values that pass at once, or the fault, and else by `walked`.
 #![tactic(auto)]
 
 mod answers;
@@ -28,6 +29,7 @@ mod call;
 mod giving;
 mod lifted;
 mod lowered;
+mod numbers;
 mod passing;
 mod scanned;
 mod tables;
@@ -39,7 +41,7 @@ use std::io;
 use std::process::ExitCode;
 
 /// The families of rows, a file each.
-const FAMILIES: [&str; 4] = ["calls", "lifts", "requests", "handles"];
+const FAMILIES: [&str; 5] = ["calls", "lifts", "requests", "handles", "numbers"];
 
 /// Nothing is kept between rows.
 #[derive(Drop)]
@@ -58,6 +60,7 @@ impl Driver for CallRows {
             "lift" => lift(alloc, rest, line),
             "pass" => pass(alloc, rest, line),
             "requests" => ask(alloc, rest, line),
+            "numbers" => pass_at_once(alloc, rest, line),
             "give" => giving::answer(alloc, rest, line),
             "answers" => answers::answer(alloc, rest, line),
             "faults" => passing::write_faults(line),
@@ -95,6 +98,14 @@ fn ask(alloc: Global, words: &[&str], line: &mut Line) {
     let rest = words_from(words, 5);
     if let Some(given) = call::read_call(alloc, sides, way, memory, rest, &[], line) {
         lifted::ask(alloc, &given, word(words, 3), line);
+    }
+}
+
+fn pass_at_once(alloc: Global, words: &[&str], line: &mut Line) {
+    let sides = call::read_sides("utf8", "utf8", "0", "0", line);
+    let rest = words_from(words, 1);
+    if let Some(given) = call::read_call(alloc, sides, word(words, 0), "-", rest, &[], line) {
+        numbers::answer(alloc, given, line);
     }
 }
 
