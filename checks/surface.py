@@ -21,6 +21,7 @@ DOORS = (
     "cm_leb",
     "cm_types",
     "cm_binary",
+    "cm_shims",
     "cm_validate",
     "cm_wit",
     "cm_match",

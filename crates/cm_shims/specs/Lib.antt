@@ -1,0 +1,9 @@
+pub mod Reasons
+pub mod Steps
+pub mod Renumbered
+pub mod Spaces
+pub mod Instantiated
+pub mod Views
+pub mod Plain
+pub mod PlainViews
+pub mod Reading
