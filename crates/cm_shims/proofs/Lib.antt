@@ -1,2 +1,6 @@
 mod StepLaws
 mod ReadLaws
+mod SameLaws
+mod PlainSame
+mod WideSpelled
+mod OldLaws

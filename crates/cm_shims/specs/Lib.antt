@@ -7,3 +7,4 @@ pub mod Views
 pub mod Plain
 pub mod PlainViews
 pub mod Reading
+pub mod Widened

@@ -6,6 +6,7 @@
 mod arguments;
 mod fault;
 mod instantiated;
+pub mod laws;
 mod plain;
 mod reading;
 mod renumbered;
