@@ -4,3 +4,4 @@ mod SameLaws
 mod PlainSame
 mod WideSpelled
 mod OldLaws
+mod RenameLaws

@@ -8,3 +8,4 @@ pub mod Plain
 pub mod PlainViews
 pub mod Reading
 pub mod Widened
+pub mod Renaming
