@@ -7,6 +7,7 @@ mod outcomes;
 mod pieces;
 mod readers;
 mod sections;
+mod shims;
 mod writers;
 
 use cm_rows::{Driver, Line, NamedFiles, answer_families, word, words_from};
@@ -15,7 +16,9 @@ use std::io;
 use std::process::ExitCode;
 
 /// The families of rows, a file each.
-const FAMILIES: [&str; 5] = ["decoding", "limits", "pieces", "readers", "writers"];
+const FAMILIES: [&str; 6] = [
+    "decoding", "limits", "pieces", "readers", "shims", "writers",
+];
 
 /// The state between rows: files by their names.
 #[derive(Drop)]
@@ -35,6 +38,7 @@ impl Driver for FileRows {
         match word(words, 0) {
             "files" => files::answer(alloc, &mut self.files, rest, line),
             "pieces" => pieces::answer(alloc, rest, line),
+            "shims" => shims::answer(alloc, &mut self.files, rest, line),
             "read" => readers::answer(alloc, rest, line),
             "write" => writers::answer(alloc, rest, line),
             _ => line.refuse(),
