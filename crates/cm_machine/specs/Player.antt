@@ -43,31 +43,37 @@ exchanges_of i (t ∷ ts) =
     then record { seen = t.seen; made = t.made } ∷ exchanges_of i ts
     else exchanges_of i ts
 
--- each of these exchanges is a stop
-abbrev pub AreStops : List Exchange → Type 0
-AreStops xs = AllByRecursion (λ x. x.made ≡ move.Unreachable) xs
+-- each move that was made is a stop
+abbrev pub AreStops : {X : Type 0} → (X → Move) → List X → Type 0
+AreStops made xs = AllByRecursion (λ x. made x ≡ move.Unreachable) xs
 
 -- A guest took part in these exchanges, as its interface means it.
-abbrev pub TookPart : {G : Type 0} → (G → List Exchange → Type 0) → G → List Exchange → Type 0
+abbrev pub TookPart : {G X : Type 0} → (G → List X → Type 0) → G → List X → Type 0
 TookPart plays g told = (told ≡ []) ⊎ plays g told
 
 -- What took part in these exchanges is now h: what h may go on with, g may after them.
-abbrev pub GoesOnAs : {G : Type 0} → (G → List Exchange → Type 0) → G → G → List Exchange → Type 0
-GoesOnAs plays g h told = (rest : List Exchange) → plays h rest → plays g (told ++ rest)
+abbrev pub GoesOnAs : {G X : Type 0} → (G → List X → Type 0) → G → G → List X → Type 0
+GoesOnAs {G} {X} plays g h told = (rest : List X) → plays h rest → plays g (told ++ rest)
 
 -- What became of a seat: a guest there took part in these exchanges, and the seat holds what it is
--- now, or nothing any more. An empty or missing seat only stops, and stays so.
+-- now, or nothing any more. An empty or missing seat only stops, and stays so. An exchange says
+-- which move was made.
+abbrev pub SeatPlaysBy : {G X : Type 0} → (X → Move) → (G → List X → Type 0)
+    → Option (Option G) → Option (Option G) → List X → Type 0
+SeatPlaysBy made plays (Some (Some g)) (Some (Some h)) told =
+    TookPart plays g told × GoesOnAs plays g h told
+SeatPlaysBy made plays (Some (Some g)) (Some None) told = TookPart plays g told
+SeatPlaysBy made plays (Some (Some g)) None told = ⊥
+SeatPlaysBy made plays (Some None) (Some (Some h)) told = ⊥
+SeatPlaysBy made plays (Some None) (Some None) told = AreStops made told
+SeatPlaysBy made plays (Some None) None told = ⊥
+SeatPlaysBy made plays None (Some seat) told = ⊥
+SeatPlaysBy made plays None None told = AreStops made told
+
+-- the same of what a guest sees and makes
 abbrev pub SeatPlays : {G : Type 0} → (G → List Exchange → Type 0)
     → Option (Option G) → Option (Option G) → List Exchange → Type 0
-SeatPlays plays (Some (Some g)) (Some (Some h)) told =
-    TookPart plays g told × GoesOnAs plays g h told
-SeatPlays plays (Some (Some g)) (Some None) told = TookPart plays g told
-SeatPlays plays (Some (Some g)) None told = ⊥
-SeatPlays plays (Some None) (Some (Some h)) told = ⊥
-SeatPlays plays (Some None) (Some None) told = AreStops told
-SeatPlays plays (Some None) None told = ⊥
-SeatPlays plays None (Some seat) told = ⊥
-SeatPlays plays None None told = AreStops told
+SeatPlays plays old new told = SeatPlaysBy (λ x. x.made) plays old new told
 
 -- whether a seat holds a guest
 abbrev pub is_taken : {G : Type 0} → Option (Option G) → Bool
@@ -110,20 +116,6 @@ abbrev pub seat_after_close : {G : Type 0} → Bool → Option (Option G) → Op
 seat_after_close true (Some seat) = Some None
 seat_after_close true None = None
 seat_after_close false seat = seat
-
--- A drive before the seats of closed instances are emptied.
-pub record IsPlay {G : Type 0} (plays : G → List Exchange → Type 0) (start : RunningSet)
-    (first : Event) (old_seats : List (Option G)) (limit : ℕ) (events : List Event)
-    (new : RunningSet) (seats : List (Option G)) : Type 0 where
-  pub turns : List Turn
-  pub told : List Event
-  pub events_are : events ≡ first ∷ told
-  pub went : Turns start first turns told new
-  pub within : length turns ≤ limit
-  pub ends : EndsAt limit (last_of first told) (length turns)
-  pub seats_play : (i : ℕ)
-      → SeatPlays plays (slice_get old_seats i) (slice_get seats i) (exchanges_of i turns)
-  pub seats_stay : (i : ℕ) → StaysTaken (slice_get old_seats i) (slice_get seats i)
 
 -- A drive that found no memory for an event has made some turns, fewer than it may or as many; its
 -- last event is no last one, and each seat holds what those turns left there.

@@ -1,12 +1,17 @@
 //! Running sets, guests and players, and the main theorem, the headline.
 //!
-//! `Set` is a linked set that runs, a move at a time. `Player::drive` plays one by guests. What
-//! holds of every history of a set says `laws::headline`.
+//! `Set` is a linked set that runs, a move at a time. `Player::drive` plays one by guests, and
+//! `drive_seeing` by guests that see their memory. What holds of every history of a set says
+//! `laws::headline`.
 #![tactic(auto)]
 
 mod headline;
 mod player;
+mod seeing;
+mod telling;
+mod turns;
 
+pub use cm_machine_guests::{Bump, MoveQueue, Room, SeeingGuest, WithAllocator};
 pub use cm_machine_model::state::{Place, Work};
 pub use cm_machine_model::{
     Event, Flat, Guest, MAX_FLAT_PARAMS, MAX_FRAMES, MAX_INSTANCES, MAX_MEMORY_SIZE, MAX_PAGES,

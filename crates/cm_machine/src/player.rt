@@ -1,143 +1,16 @@
 //! Guests on their seats, and a drive that plays them.
 
-ghost use Rattle.std.specs.Prelude.{◌≡◌, ◌≢◌, ℕ, ◌<◌, ◌&&◌, not, Err, ◌⊎◌, OnOk, OnErr, false};
-ghost use Rattle.std.specs.Prelude.{[], ◌∷◌, ◌++◌, length, Option, Some, None, slice_set, IfOk};
-ghost use Rattle.std.specs.Prelude.{IfErr, slice_get, true, List};
-ghost use Rattle.std.specs.Option.{option_map};
+ghost use Rattle.std.specs.Prelude.{◌≡◌, ◌≢◌, ℕ, ◌&&◌, not, Err, ◌⊎◌, OnOk, IfOk, IfErr, []};
+ghost use Rattle.std.specs.Prelude.{None, Some, slice_get};
 ghost use Rattle.cm_machine_model.specs.declared.event.Event.{Event};
 ghost use Rattle.cm_machine_model.specs.declared.event.Misuse.{Misuse};
-ghost use Rattle.cm_machine_model.specs.Exchange.{Exchange};
-ghost use Rattle.cm_machine_model.specs.Events.{is_last};
 ghost use Rattle.cm_machine_model.specs.Run.{misuse_of_begin};
 ghost use Rattle.cm_machine_set.specs.Running.{begun};
-ghost use Rattle.cm_machine.specs.Player.{Turn, Turns, last_of, exchanges_of, AreStops, SeatPlays};
-ghost use Rattle.cm_machine.specs.Player.{StaysTaken, EndsAt, IsPlay, IsDrive, IsHalt};
-ghost use Rattle.cm_machine.specs.Player.{closes_between};
-ghost use Rattle.cm_machine.specs.Player.{seat_after_close, is_taken};
+ghost use Rattle.cm_machine.specs.Player.{IsDrive, IsHalt, closes_between, is_taken};
 
-use cm_machine_model::{Event, Guest, Misuse, Move};
+use cm_machine_model::{Event, Guest, Misuse};
 use cm_machine_set::Set;
 use std::alloc::Global;
-
-/// Asks a guest.
-fn ask(guest: &mut Box<dyn Guest>, seen: &Event) -> Move
-    ensures goes_on { (rest : List Exchange) → plays guest.new rest
-        → plays guest.old (record { seen = seen.now; made = result } ∷ rest) }
-    ensures answers { plays guest.old (record { seen = seen.now; made = result } ∷ []) }
-{
-    guest.next(seen)
-}
-
-/// Asks the guest on a seat; an empty seat stops.
-fn ask_seat(seat: &mut Option<Box<dyn Guest>>, seen: &Event) -> Move
-    ensures plays { SeatPlays (λ g rest. plays g rest) (Some seat.old) (Some seat.new)
-        (record { seen = seen.now; made = result } ∷ []) }
-    ensures stays { StaysTaken (Some seat.old) (Some seat.new) }
-{
-    match seat {
-        Some(guest) => ask(guest, seen),
-        None => Move::Unreachable,
-    }
-}
-
-/// Asks the guest on an instance's seat; an empty or missing seat stops. No other seat changes.
-fn ask_one(seats: &mut Vec<Option<Box<dyn Guest>>>, instance: u32, seen: &Event) -> Move
-    ensures plays { SeatPlays (λ g rest. plays g rest)
-        (slice_get seats.old.items instance) (slice_get seats.new.items instance)
-        (record { seen = seen.now; made = result } ∷ []) }
-    ensures stays { StaysTaken
-        (slice_get seats.old.items instance) (slice_get seats.new.items instance) }
-    ensures others { (i : ℕ) → i ≢ instance
-        → slice_get seats.new.items i ≡ slice_get seats.old.items i }
-{
-    match seats.get_mut(instance as usize) {
-        Some(seat) => ask_seat(seat, seen),
-        None => Move::Unreachable,
-    }
-}
-
-/// Whether the last of these events ends a drive.
-fn is_over(events: &Vec<Event>) -> bool
-    ensures { (first : Event) (told : List Event) → events.now.items ≡ first ∷ told
-        → result ≡ is_last (last_of first told) }
-{
-    match events.last() {
-        Some(event) => event.is_last(),
-        None => false,
-    }
-}
-
-/// Plays a set whose stack is not empty until an event is the last or so many moves were made. Room
-/// for a move's event is made before the move; where there is none, the answer is `Memory`.
-fn play_on(
-    set: &mut Set,
-    seats: &mut Vec<Option<Box<dyn Guest>>>,
-    events: &mut Vec<Event>,
-    limit: u64,
-) -> Result<(), Misuse>
-    requires one { (e : Event) × (events.old.items ≡ e ∷ []) × (is_last e ≡ false) }
-    requires stands { 0 < length set.old.state.stack }
-    ensures ok { OnOk result ((first : Event) → events.old.items ≡ first ∷ []
-        → IsPlay (λ g rest. plays g rest)
-        set.old first seats.old.items limit events.new.items set.new seats.new.items) }
-    ensures only { IfErr result (λ m. m ≡ Misuse.Memory) }
-    ensures halt { OnErr result ((first : Event) → events.old.items ≡ first ∷ []
-        → IsHalt (λ g rest. plays g rest)
-        set.old first seats.old.items limit set.new seats.new.items) }
-{
-    for _ in 0..limit {
-        if is_over(events) {
-            return Ok(());
-        }
-        if events.reserve(1).is_err() {
-            return Err(Misuse::Memory);
-        }
-        let Some(seen) = events.last() else {
-            unreachable!()
-        };
-        let Some(instance) = set.acting() else {
-            unreachable!()
-        };
-        let made = ask_one(seats, instance, seen);
-        let Ok(event) = set.step(&made) else {
-            unreachable!()
-        };
-        match events.push(event) {
-            Ok(()) => {}
-            Err(_) => unreachable!(),
-        }
-    }
-    Ok(())
-}
-
-/// Whether these flags say that an instance is closed now and was not before.
-fn closes_between(before: &[bool], after: &[bool], instance: usize) -> bool
-    ensures { result ≡ closes_between before.now after.now instance }
-{
-    let was_closed = before.get(instance).copied().unwrap_or(false);
-    after.get(instance).copied().unwrap_or(false) && !was_closed
-}
-
-/// Drops the guest on a seat.
-fn empty_seat(seats: &mut Vec<Option<Box<dyn Guest>>>, seat: usize)
-    requires { seat < length seats.old.items }
-    ensures { seats.new.items ≡ slice_set seats.old.items seat None }
-{
-    seats[seat] = None;
-}
-
-/// Empties the seats of the instances that these flags say are closed now and were not before.
-fn empty_closed(seats: &mut Vec<Option<Box<dyn Guest>>>, before: &[bool], after: &[bool])
-    ensures { (i : ℕ) → slice_get seats.new.items i
-        ≡ seat_after_close (closes_between before.now after.now i) (slice_get seats.old.items i) }
-{
-    for i in 0..seats.len() {
-        let closes = closes_between(before, after, i);
-        if closes {
-            empty_seat(seats, i);
-        }
-    }
-}
 
 /// Plays root calls of a set.
 pub struct Player;
@@ -177,14 +50,6 @@ impl Player {
             → IsHalt (λ g rest. plays g rest) (begun set.old root) (Event.Resume root [])
             seats.old.items limit set.new seats.new.items) }
     {
-        let first = set.begin(root)?;
-        let mut events = Vec::new(alloc);
-        let Ok(()) = events.push(first) else {
-            return Err(Misuse::Memory);
-        };
-        let before = set.closed_flags();
-        play_on(set, seats, &mut events, limit)?;
-        empty_closed(seats, before.as_slice(), set.closed_flags().as_slice());
-        Ok(events)
+        Player::drive_seeing(alloc, set, seats, root, limit)
     }
 }

@@ -1,30 +1,16 @@
-use Rattle.std.proofs.Common.{◌≡◌, [], ◌∷◌, refl, sym, ap, subst, ◌∙◌}
-use Rattle.std.specs.Prelude.{slice_get}
+use Rattle.std.proofs.Common.{[]}
+use Rattle.cm_lemmas.proofs.Results.{if_ok_more}
 use Rattle.cm_machine_model.specs.declared.event.Event.TheVariants as event
-use Rattle.cm_machine_set.specs.Running.{RunningSet, begun}
-use Rattle.cm_machine.specs.Player.{IsPlay, IsHalt, closes_between, seat_after_close}
-use Rattle.cm_machine.proofs.Drives.{halts_first, whole_drive, taken_after, closed_same}
+use Rattle.cm_machine_set.specs.Running.{begun}
+use Rattle.cm_machine.proofs.Forgets.{drive_forgets, halt_forgets, if_err_more}
 use Rattle.cm_machine.proofs.player.Player.drive.Goals as goal
 
 pub returns-clause-drive : goal.returns-clause-drive
 returns-clause-drive g c =
-    let is_begun : c.begin.new.self ≡ begun c.args.set.now c.args.root = c.in_ok-first.ensures.begins in
-    let first : c.push.new.self.items ≡ event.Resume c.args.root [] ∷ [] = let e = c.in_ok-first.ensures.event in let f = c.in-Ok.ensures.items in let n = c.new-events.ensures.items in cc in
-    let played = subst (λ (s : RunningSet). IsPlay (λ b rest. (goal.Guest-dyn g (b.vtable, b.value)).plays b.value rest) s (event.Resume c.args.root []) c.args.seats.now.items c.args.limit c.play_on.new.events.items c.play_on.new.set c.play_on.new.seats.items) is_begun (c.in_ok-play_on.ensures.ok (event.Resume c.args.root []) first) in
-    let same = closed_same c.as_slice.result.now c.args.set.now.state.closed c.as_slice-2.result.now c.play_on.new.set.state.closed (c.as_slice.ensures.value ∙ c.closed_flags-before.ensures ∙ ap (λ (s : RunningSet). s.state.closed) is_begun) (c.as_slice-2.ensures.value ∙ c.closed_flags.ensures) in
-    whole_drive (λ b rest. (goal.Guest-dyn g (b.vtable, b.value)).plays b.value rest) (begun c.args.set.now c.args.root) c.args.root c.args.limit c.args.seats.now.items c.play_on.new.events.items c.play_on.new.set c.play_on.new.seats.items played (closes_between c.args.set.now.state.closed c.play_on.new.set.state.closed) c.empty_closed.new.seats.items
-    (λ i. c.empty_closed.ensures i ∙ ap (λ b. seat_after_close b (slice_get c.play_on.new.seats.items i)) (same i))
+    if_ok_more c.drive_seeing.result _ _ c.drive_seeing.ensures.drive
+    (λ events d. drive_forgets (λ b rest. (goal.Guest-dyn g (b.vtable, b.value)).plays b.value rest) c.args.root c.args.limit (begun c.args.set.now c.args.root) c.args.seats.now.items events.items c.drive_seeing.new.set c.drive_seeing.new.seats.items d)
 
-pub returns-clause-emptied : goal.returns-clause-emptied
-returns-clause-emptied g c =
-    let is_begun : c.begin.new.self ≡ begun c.args.set.now c.args.root = c.in_ok-first.ensures.begins in
-    let first : c.push.new.self.items ≡ event.Resume c.args.root [] ∷ [] = let e = c.in_ok-first.ensures.event in let f = c.in-Ok.ensures.items in let n = c.new-events.ensures.items in cc in
-    let played = subst (λ (s : RunningSet). IsPlay (λ b rest. (goal.Guest-dyn g (b.vtable, b.value)).plays b.value rest) s (event.Resume c.args.root []) c.args.seats.now.items c.args.limit c.play_on.new.events.items c.play_on.new.set c.play_on.new.seats.items) is_begun (c.in_ok-play_on.ensures.ok (event.Resume c.args.root []) first) in
-    let same = closed_same c.as_slice.result.now c.args.set.now.state.closed c.as_slice-2.result.now c.play_on.new.set.state.closed (c.as_slice.ensures.value ∙ c.closed_flags-before.ensures ∙ ap (λ (s : RunningSet). s.state.closed) is_begun) (c.as_slice-2.ensures.value ∙ c.closed_flags.ensures) in
-    taken_after (λ b rest. (goal.Guest-dyn g (b.vtable, b.value)).plays b.value rest) (begun c.args.set.now c.args.root) c.args.root c.args.limit c.args.seats.now.items c.play_on.new.events.items c.play_on.new.set c.play_on.new.seats.items played (closes_between c.args.set.now.state.closed c.play_on.new.set.state.closed) c.empty_closed.new.seats.items
-    (λ i. c.empty_closed.ensures i ∙ ap (λ b. seat_after_close b (slice_get c.play_on.new.seats.items i)) (same i))
-
-pub returns-in_default-clause-halt : goal.returns-in_default-clause-halt
-returns-in_default-clause-halt g c memory =
-    subst (λ (s : RunningSet). IsHalt (λ b rest. (goal.Guest-dyn g (b.vtable, b.value)).plays b.value rest) (begun c.args.set.now c.args.root) (event.Resume c.args.root []) c.args.seats.now.items c.args.limit s c.args.seats.now.items) (sym c.in_ok-first.ensures.begins)
-    (halts_first (λ b rest. (goal.Guest-dyn g (b.vtable, b.value)).plays b.value rest) (begun c.args.set.now c.args.root) (event.Resume c.args.root []) c.args.seats.now.items c.args.limit refl)
+pub returns-clause-halt : goal.returns-clause-halt
+returns-clause-halt g c =
+    if_err_more c.drive_seeing.result _ _ c.drive_seeing.ensures.halt
+    (λ m h is. halt_forgets (λ b rest. (goal.Guest-dyn g (b.vtable, b.value)).plays b.value rest) (begun c.args.set.now c.args.root) (event.Resume c.args.root []) c.args.seats.now.items c.args.limit c.drive_seeing.new.set c.drive_seeing.new.seats.items (h is))

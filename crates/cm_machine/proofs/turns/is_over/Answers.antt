@@ -1,7 +1,7 @@
 use Rattle.std.proofs.Common.{Some, sym, ap, ◌∙◌}
 use Rattle.cm_machine_model.specs.Events.{is_last}
 use Rattle.cm_machine.proofs.Drives.{last_seen, last_is_seen}
-use Rattle.cm_machine.proofs.player.is_over.Goals as goal
+use Rattle.cm_machine.proofs.turns.is_over.Goals as goal
 
 pub returns-in-Some : goal.returns-in-Some
 returns-in-Some c first told is =

@@ -1,7 +1,7 @@
 use Rattle.std.proofs.Common.{◌≡◌, ◌<◌, ◌≤◌, ℕ, length}
 use Rattle.std.specs.Prelude.{slice_get}
 use Rattle.cm_machine.specs.Player.{closes_between, seat_after_close}
-use Rattle.cm_machine.proofs.player.empty_closed.Given as goal
+use Rattle.cm_machine.proofs.turns.empty_closed.Given as goal
 
 abbrev pub invariant-loop-i : goal.invariant-loop-i
 invariant-loop-i g l = record {

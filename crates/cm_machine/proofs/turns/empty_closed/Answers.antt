@@ -1,8 +1,8 @@
 use Rattle.std.proofs.Common.{◌<◌, length, arith, ap, sym, ◌∙◌}
 use Rattle.cm_machine.specs.Player.{closes_between}
 use Rattle.cm_machine.proofs.Seats.{EmptiedTo, turn_empties, turn_keeps, all_emptied}
-use Rattle.cm_machine.proofs.player.empty_closed.Goals as goal
-use Rattle.cm_machine.proofs.player.empty_closed.Goals.{then-closes, else-closes}
+use Rattle.cm_machine.proofs.turns.empty_closed.Goals as goal
+use Rattle.cm_machine.proofs.turns.empty_closed.Goals.{then-closes, else-closes}
 
 pub loop-i-preserved : goal.loop-i-preserved
 loop-i-preserved g c =

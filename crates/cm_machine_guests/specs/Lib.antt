@@ -1,0 +1,4 @@
+pub use Rattle.cm_machine_model.specs as cm_machine_model
+pub mod Moves
+pub mod Regions
+pub mod Sights

@@ -1,0 +1,88 @@
+//! A guest whose allocator is written already.
+
+ghost use Rattle.std.specs.Prelude.{⊤};
+
+use crate::bump::{Bump, Room};
+use crate::seeing_guest::SeeingGuest;
+use cm_machine_model::{Event, Move};
+use cm_types::CoreValue;
+use std::alloc::Global;
+
+/// A request for a region, as an allocator gets it.
+#[derive(Clone, Copy)]
+struct Request {
+    size: u32,
+    align: u32,
+}
+
+/// A guest that answers its allocator's calls by itself, and leaves everything else to another one.
+///
+/// It gives out the regions of a range of its memory, which it lets grow as far as they need. Where
+/// there is no room, it stops. The other guest never sees `Event::Realloc`, nor what a growth of
+/// this one's asking led to.
+#[derive(Drop)]
+pub struct WithAllocator<G> {
+    alloc: Global,
+    regions: Bump,
+    /// The request that waits for the memory to grow.
+    waiting: Option<Request>,
+    guest: G,
+}
+
+impl<G: SeeingGuest> WithAllocator<G> {
+    /// A guest that gives out these regions, and is `guest` in everything else.
+    pub fn new(alloc: Global, regions: Bump, guest: G) -> WithAllocator<G> {
+        WithAllocator {
+            alloc,
+            regions,
+            waiting: None,
+            guest,
+        }
+    }
+
+    /// The move that answers a request, in a memory of so many bytes.
+    fn answer(&mut self, request: Request, bytes: usize) -> Move {
+        match self.regions.allocate(request.size, request.align, bytes) {
+            Room::At(at) => returns(self.alloc, at),
+            Room::Grow(pages) => {
+                self.waiting = Some(request);
+                Move::Grow { pages }
+            }
+            Room::Full => Move::Unreachable,
+        }
+    }
+}
+
+/// The request that an allocator's arguments are: the old pointer, the old size, the alignment, the
+/// size.
+fn request_of(args: &[CoreValue]) -> Option<Request> {
+    match args {
+        [_, _, CoreValue::I32(align), CoreValue::I32(size)] => Some(Request {
+            size: *size,
+            align: *align,
+        }),
+        _ => None,
+    }
+}
+
+/// Returns an address; stops where there is no memory for the move.
+fn returns(alloc: Global, at: u32) -> Move {
+    Move::ret(alloc, &[CoreValue::I32(at)]).unwrap_or(Move::Unreachable)
+}
+
+impl<G: SeeingGuest> SeeingGuest for WithAllocator<G> {
+    // Nothing is promised of what it does: what is proved of the machine holds all the same.
+    ghost plays = { λ _ _. ⊤ };
+
+    fn next(&mut self, seen: &Event, memory: &[u8]) -> Move {
+        let request = match (seen, self.waiting.take()) {
+            (Event::Realloc { args, .. }, _) => request_of(args.as_slice()),
+            (Event::Grown(pages), Some(request)) => pages.and(Some(request)),
+            _ => return self.guest.next(seen, memory),
+        };
+        match request {
+            Some(request) => self.answer(request, memory.len()),
+            None => Move::Unreachable,
+        }
+    }
+}
