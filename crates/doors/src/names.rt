@@ -52,7 +52,9 @@ pub mod abi {
 }
 
 pub mod machine {
-    pub use cm_machine::{Event, Guest, Misuse, Move, Player, Set, Trap};
+    pub use cm_machine::{
+        Bump, Event, Guest, Misuse, Move, MoveQueue, Player, SeeingGuest, Set, Trap, WithAllocator,
+    };
 }
 
 pub mod tool {

@@ -8,7 +8,7 @@ mod fault;
 mod loading;
 
 pub use cm_binary::{Component, DecodeFault, decode, encode};
-pub use cm_machine::{Event, Guest, Misuse, Move, Player, Set, Trap};
+pub use cm_machine::{Event, Guest, Misuse, Move, Player, SeeingGuest, Set, Trap};
 pub use cm_match::{LinkFault, Linked, link};
 pub use cm_types::{CoreKind, CoreValue};
 pub use cm_validate::{Checked, ValidFault, validate};
@@ -77,8 +77,9 @@ pub mod values {
 /// The machine that runs a linked set, and guests that play it.
 pub mod machine {
     pub use cm_machine::{
-        Event, Flat, Guest, MAX_FRAMES, MAX_INSTANCES, MAX_MEMORY_SIZE, MAX_PAGES, Misuse, Move,
-        Outcome, PAGE_SIZE, Place, Player, Set, Trap, Work,
+        Bump, Event, Flat, Guest, MAX_FRAMES, MAX_INSTANCES, MAX_MEMORY_SIZE, MAX_PAGES, Misuse,
+        Move, MoveQueue, Outcome, PAGE_SIZE, Place, Player, Room, SeeingGuest, Set, Trap,
+        WithAllocator, Work,
     };
 
     /// What holds of every history of a set.
