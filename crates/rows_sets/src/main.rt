@@ -8,6 +8,7 @@ mod faults;
 mod links;
 mod moves;
 mod plays;
+mod seeing;
 mod seen;
 mod sets;
 

@@ -4,6 +4,7 @@ use crate::checks::write_shape;
 use crate::components::read_components;
 use crate::events::{write_event, write_events};
 use crate::links::{link_components, read_item, write_link_fault};
+use crate::seeing::{write_heard, write_seen};
 use cm_binary::Component;
 use cm_machine::{Event, Flat, Guest, Misuse, Move, Player, Set};
 use cm_match::Linked;
@@ -45,7 +46,8 @@ impl Sets {
 
     /// The answer to `target COMPONENT IMPORT ITEM`, `new PAGES..` (of the set linked last), `begin
     /// INSTANCE`, `step MOVE`, `run MOVE ; ..`, `acting`, `memory INSTANCE`, `is_closed INSTANCE`,
-    /// `drives ROOTS LIMIT SEAT | ..` or `flat VALUE..`.
+    /// `drives ROOTS LIMIT SEAT | ..`, `sees ROOT LIMIT SEAT | ..`, `hears ROOT LIMIT SEAT | ..` or
+    /// `flat VALUE..`.
     pub fn answer(&mut self, alloc: Global, words: &[&str], line: &mut Line) {
         match word(words, 0) {
             "target" => self.write_target(alloc, words, line),
@@ -123,7 +125,7 @@ fn write_plan(line: &mut Line, linked: &Linked<'_>) {
 }
 
 /// Writes a misuse; want of memory is that of the row.
-fn write_misuse(line: &mut Line, misuse: Misuse) {
+pub(crate) fn write_misuse(line: &mut Line, misuse: Misuse) {
     line.fail_if_memory(misuse == Misuse::Memory);
     line.put("misuse ");
     line.debug(&misuse);
@@ -151,6 +153,8 @@ fn answer_of_set(alloc: Global, set: &mut Set, call: &str, words: &[&str], line:
                 line,
             );
         }
+        "sees" => write_seen(alloc, set, words, line),
+        "hears" => write_heard(alloc, set, words, line),
         "acting" => line.found(set.acting()),
         call => answer_of_instance(set, call, line.number(word(words, 0)), line),
     }
@@ -181,7 +185,7 @@ fn write_stepped(line: &mut Line, event: Result<Event, Misuse>) {
 }
 
 /// Writes the events of a run, or its misuse.
-fn write_ran(line: &mut Line, events: Result<Vec<Event>, Misuse>) {
+pub(crate) fn write_ran(line: &mut Line, events: Result<Vec<Event>, Misuse>) {
     match events {
         Ok(events) => write_events(line, &events),
         Err(misuse) => write_misuse(line, misuse),
@@ -189,7 +193,7 @@ fn write_ran(line: &mut Line, events: Result<Vec<Event>, Misuse>) {
 }
 
 /// A move, as a line of a script spells it.
-fn read_move(alloc: Global, words: &[&str], line: &mut Line) -> Option<Move> {
+pub(crate) fn read_move(alloc: Global, words: &[&str], line: &mut Line) -> Option<Move> {
     let text = read_text(alloc, words, line);
     match Statement::parse(alloc, text.as_str()) {
         Ok(Statement::Move(made)) => return Some(made),
@@ -199,7 +203,7 @@ fn read_move(alloc: Global, words: &[&str], line: &mut Line) -> Option<Move> {
     None
 }
 
-fn read_moves(alloc: Global, words: &[&str], line: &mut Line) -> Vec<Move> {
+pub(crate) fn read_moves(alloc: Global, words: &[&str], line: &mut Line) -> Vec<Move> {
     let mut moves = Vec::new(alloc);
     if words.is_empty() {
         return moves;
