@@ -30,6 +30,7 @@ DOORS = (
     "cm_handles",
     "cm_abi",
     "cm_machine",
+    "cm_stubs",
     "cm_tool",
 )
 # rooms that stand behind several doors, each with the first of these

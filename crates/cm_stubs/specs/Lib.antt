@@ -1,0 +1,4 @@
+pub mod Faults
+pub mod Used
+pub mod Stubs
+pub mod Sets
