@@ -74,6 +74,11 @@ pub mod values {
     };
 }
 
+/// Components that stand in for a host: what others import, or what one exports.
+pub mod stub {
+    pub use cm_stubs::{StubFault, caller, caller_for, provider, provider_for};
+}
+
 /// The machine that runs a linked set, and guests that play it.
 pub mod machine {
     pub use cm_machine::{
