@@ -19,7 +19,7 @@ use Rattle.cm_match.specs.Before.{AreServedBefore}
 use Rattle.cm_machine_model.specs.declared.event.Misuse.{Misuse}
 use Rattle.cm_machine_model.specs.declared.event.Misuse.TheVariants as misuse
 use Rattle.cm_machine_model.specs.State.{are_page_counts}
-use Rattle.cm_machine_set.specs.Running.{IsNew, RunningSet}
+use Rattle.cm_machine.specs.cm_machine_set.Running.{IsNew, RunningSet}
 use Rattle.huxarte.specs.declared.fault.LoadFault.{LoadFault}
 use Rattle.huxarte.specs.declared.fault.LoadFault.TheVariants as fault
 

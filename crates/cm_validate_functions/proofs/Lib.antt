@@ -1,0 +1,6 @@
+mod KeyLaws
+mod NameLaws
+mod LeadingLaws
+mod LiftLaws
+mod HeldLaws
+mod FlatLaws

@@ -1,0 +1,6 @@
+use Rattle.std.proofs.Common.{◌≡◌, drop}
+use Rattle.cm_validate_functions.specs.Options.{encoding_in, first_in}
+use Rattle.cm_validate_functions.proofs.options.encoding.Given as goal
+
+abbrev pub invariant-loop-option : goal.invariant-loop-option
+invariant-loop-option l = first_in encoding_in l.options ≡ first_in encoding_in (drop l.option-index l.options)
