@@ -18,6 +18,7 @@ from rows import run, write_block
 WANTING = re.compile(r"grown \d|enter |realloc |postreturn |resume |trapped ")
 PLAYED = re.compile(r"status (\d), out (.*), err (.*)")
 UNREAD = ("no row", "no memory")
+SIZED = re.compile(r"\d+ bytes")
 DRIVEN = re.compile(r"misuse (Busy|Closed|Idle)( seats .*)?")
 TRAPPED = re.compile(r"(?:.*; )?trapped (?:EngineMemory \(last\)|20)(?: .*)?")
 
@@ -69,8 +70,19 @@ def lacks_in_move(got, wanted):
         WANTING.match(events[len(before)]))
 
 
+def lacks_in_cuts(got, wanted):
+    """Whether a command that is run with less and less room for its output ended otherwise for one
+    of these: it found no memory there, or none for the line that says so."""
+    return wanted.startswith("below ") and got.startswith("below ")
+
+
+def lacks_in_text(got, wanted):
+    """Whether a text that rows make line by line has part of a line that found no memory."""
+    return bool(SIZED.fullmatch(got) and SIZED.fullmatch(wanted))
+
+
 # What shows the refusal, so that the rows behind it are not judged.
-LAST = (lacks_in_move, lacks_in_list, lacks_in_play, lacks_in_drive)
+LAST = (lacks_in_move, lacks_in_list, lacks_in_play, lacks_in_drive, lacks_in_cuts, lacks_in_text)
 
 
 def are_right(differing, rows):

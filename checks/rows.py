@@ -15,6 +15,7 @@ MARK = " => "
 # begin a block of them. No row begins with `#`, so such a family is one block.
 BLOCKS = {
     "packages": ("#",),
+    "links": ("link",),
     "runs": ("link",),
     "drives": ("link",),
     "tables": ("table new",),
