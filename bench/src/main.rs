@@ -13,6 +13,7 @@ mod plain_machine;
 mod samples;
 mod sets;
 mod text;
+mod tight;
 mod turns;
 
 fn main() {

@@ -1,10 +1,12 @@
 //! Calls of all kinds between two components, each a list of moves that is made again and again, by
-//! `step_in` and by `step`, against a plain machine of the same rules (`src/plain_machine.rs`).
+//! `step_in` and by `step`, against a tight machine of the same rules (`src/tight.rs`). The plain
+//! machine (`src/plain_machine.rs`) tells what the sums of all three have to be.
 
 use crate::heap;
 use crate::measure::{Rival, nanoseconds};
 use crate::plain_machine::{Func, Machine, Move, Ty};
 use crate::samples::{file, list, number, section, text};
+use crate::tight;
 use std::hint::black_box;
 use std::rc::Rc;
 
@@ -295,6 +297,30 @@ fn plain(case: &Case, rounds: u32) -> Option<u64> {
     Some(sum)
 }
 
+/// The same by the tight machine.
+fn tight(case: &Case, rounds: u32) -> Option<u64> {
+    let mut machine = tight::Machine::new(&case.core, case.pages);
+    machine.begin(1);
+    let mut values = tight::Flat::new();
+    for made in &case.once {
+        let made = tight::move_of(made);
+        if let tight::Outcome::Trapped(_) = machine.step_in(&made, &mut values)? {
+            return None;
+        }
+    }
+    let turn: Vec<tight::Move> = case.turn.iter().map(tight::move_of).collect();
+    let mut sum = 0u64;
+    for _ in 0..rounds {
+        for made in &turn {
+            if let tight::Outcome::Trapped(_) = machine.step_in(black_box(made), &mut values)? {
+                return None;
+            }
+            sum = sum.wrapping_add(tight::sum_of(values.as_slice()));
+        }
+    }
+    Some(sum)
+}
+
 /// The difference of two numbers of rounds, so that the making of the set is not counted.
 fn each(case: &Case, times: &[f64], at: usize) -> f64 {
     (times[2 * at + 1] - times[2 * at]) / f64::from(case.rounds[1] - case.rounds[0])
@@ -314,13 +340,14 @@ pub fn run() {
     println!("calls of all kinds, by step_in and by step (a ratio above 1: ours is faster)");
     println!(
         "{:24} {:>11} {:>11} {:>11} {:>8} {:>6} {:>12}",
-        "turn", "step_in ns", "step ns", "plain ns", "step_in", "step", "allocations"
+        "turn", "step_in ns", "step ns", "tight ns", "step_in", "step", "allocations"
     );
     for case in cases() {
         let words = words_of(&case);
         let wanted = plain(&case, case.rounds[0]).expect("no trap");
         assert_eq!(ours(&case, &words, case.rounds[0], true), wanted, "{}", case.name);
         assert_eq!(ours(&case, &words, case.rounds[0], false), wanted, "{}", case.name);
+        assert_eq!(tight(&case, case.rounds[0]), Some(wanted), "{}", case.name);
         let [few, more] = case.rounds;
         let times = nanoseconds(&mut [
             Rival::new("few", || {
@@ -336,18 +363,18 @@ pub fn run() {
                 black_box(ours(&case, &words, more, false));
             }),
             Rival::new("few", || {
-                black_box(plain(&case, few));
+                black_box(tight(&case, few));
             }),
-            Rival::new("plain", || {
-                black_box(plain(&case, more));
+            Rival::new("tight", || {
+                black_box(tight(&case, more));
             }),
         ]);
-        let [by_step_in, by_step, by_plain] = [0, 1, 2].map(|at| each(&case, &times, at));
+        let [by_step_in, by_step, by_tight] = [0, 1, 2].map(|at| each(&case, &times, at));
         println!(
-            "{:24} {by_step_in:11.0} {by_step:11.0} {by_plain:11.0} {:8.2} {:6.2} {:12}",
+            "{:24} {by_step_in:11.0} {by_step:11.0} {by_tight:11.0} {:8.2} {:6.2} {:12}",
             case.name,
-            by_plain / by_step_in,
-            by_plain / by_step,
+            by_tight / by_step_in,
+            by_tight / by_step,
             allocations(&case, &words, true),
         );
     }
@@ -360,6 +387,7 @@ pub fn once(side: &str, name: &str, rounds: u32) {
     black_box(match side {
         "step_in" => ours(&case, &words, rounds, true),
         "step" => ours(&case, &words, rounds, false),
+        "tight" => tight(&case, rounds).expect("no trap"),
         _ => plain(&case, rounds).expect("no trap"),
     });
 }
