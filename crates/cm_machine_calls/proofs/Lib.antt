@@ -19,3 +19,4 @@ pub mod Standing
 pub mod Lifted
 pub mod CallLaws
 pub mod ReturnLaws
+pub mod NumberLaws

@@ -19,7 +19,8 @@ ghost use Rattle.cm_machine_calls.specs.Staying.{StaysKept};
 use crate::arguments::{Arguments, split_arguments};
 use crate::laws::lifts_keep_borrows;
 use crate::lift::{few_lends, lend, lift_flat_values};
-use crate::link::put_phase;
+use crate::link::{put_phase, steps_of};
+use crate::numbers::enter_with_numbers;
 use crate::requests::go_on;
 use cm_abi::Way;
 use cm_machine_model::state::{Call, Frame, Phase, Purpose};
@@ -155,7 +156,10 @@ pub fn call_lowered(
     if !has_room(state) {
         return Err(Trap::StackFull);
     }
-    pass_arguments(alloc, state, top, func, link, &arguments, values)
+    match steps_of(link, Way::Params) {
+        Some(steps) => enter_with_numbers(state, top, func, link, steps, &arguments, values),
+        None => pass_arguments(alloc, state, top, func, link, &arguments, values),
+    }
 }
 
 /// The body of the call on top begins: its core function is called (CanonicalABI.md, `enter_call`).

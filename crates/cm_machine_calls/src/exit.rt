@@ -25,7 +25,8 @@ ghost use Rattle.cm_machine_calls.specs.Staying.{StaysKept};
 use crate::enter::enter_call;
 use crate::laws::lifts_keep_borrows;
 use crate::lift::{few_lends, lift_flat_values};
-use crate::link::{kinds_of, put_phase};
+use crate::link::{kinds_of, put_phase, steps_of};
+use crate::numbers::exit_with_numbers;
 use crate::post_return::return_post_return;
 use crate::requests::{answer, go_on, return_answer};
 use cm_abi::Way;
@@ -181,7 +182,10 @@ fn return_body(
     if has_borrows(state) {
         return Err(Trap::BorrowsLeft);
     }
-    pass_result(alloc, state, call, link, given, values)
+    match steps_of(link, Way::Results) {
+        Some(steps) => exit_with_numbers(state, call, link, steps, given, values),
+        None => pass_result(alloc, state, call, link, given, values),
+    }
 }
 
 /// The flat result that a caller gets, of the core values that pass it.
@@ -198,6 +202,7 @@ fn flat_result(link: &Link, values: &Flat) -> Option<CoreValue>
 /// Goes on once the result of the call on top was lowered, whose core values `values` has: the
 /// callee tidies up, if it has a function for that, and gets what its body returned; else the call
 /// ends, its lends too, and the caller goes on (CanonicalABI.md, `exit_call`, `post_return`).
+#[inline(always)]
 pub(crate) fn exit_call(state: &mut State, link: &Link, call: &Call, values: &mut Flat) -> Outcome
     requires { CanEnd state.old }
     ensures finishes { (l : RulesLink) (p : Passage) → IsLinkOf l link.now

@@ -14,6 +14,7 @@ mod laws;
 mod lift;
 mod link;
 mod lower;
+mod numbers;
 mod post_return;
 mod requests;
 mod traps;

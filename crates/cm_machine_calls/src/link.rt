@@ -1,10 +1,11 @@
 //! What a link says of a value that is passed one way.
 
-ghost use Rattle.std.specs.Prelude.{◌≡◌, ◌<◌, length};
+ghost use Rattle.std.specs.Prelude.{◌≡◌, ◌<◌, IfSome, length};
 ghost use Rattle.cm_layout.specs.Layouts.{layout_of};
 ghost use Rattle.cm_layout.specs.Shapes.{layout_of_fields_at};
 ghost use Rattle.cm_abi_model.specs.Receives.{call_kinds};
 ghost use Rattle.cm_abi_model.specs.Ways.{way_of};
+ghost use Rattle.cm_abi_slots.specs.Steps.{AreStepsOf};
 ghost use Rattle.cm_machine_model.specs.Plan.{Link as RulesLink, giver_side, receiver_side};
 ghost use Rattle.cm_machine_model.specs.Plan.{types_of};
 ghost use Rattle.cm_machine_model.specs.Step.{giver_of, in_phase, receiver_of};
@@ -13,6 +14,7 @@ ghost use Rattle.cm_machine_parts.specs.Links.{IsLinkOf, ArePassed};
 
 use cm_abi::{Receiver, Way};
 use cm_abi_model::Encodings;
+use cm_abi_slots::SlotStep;
 use cm_layout::Layout;
 use cm_machine_model::state::{Call, Frame, Phase, Purpose};
 use cm_machine_parts::{Link, PassedTypes, State};
@@ -46,6 +48,18 @@ pub(crate) fn kinds_of(link: &Link, way: Way) -> &[CoreKind]
 {
     let types = types_of(link, way);
     types.kinds.as_slice()
+}
+
+/// What each core value becomes that passes it, where they are numbers alone, which pass at once.
+pub(crate) fn steps_of(link: &Link, way: Way) -> Option<&[SlotStep]>
+    ensures { (l : RulesLink) → IsLinkOf l link.now
+        → IfSome result (λ steps. AreStepsOf (way_of way) (types_of l (way_of way)) steps.now) }
+{
+    let types = types_of(link, way);
+    match &types.steps {
+        Some(steps) => Some(steps.as_slice()),
+        None => None,
+    }
 }
 
 /// How strings are encoded by who gives what is passed that way, and by who receives it.

@@ -3,6 +3,7 @@ use Rattle.std.proofs.Common.{◌≡◌, ◌∙◌, ◌+◌, ◌<◌, ◌≤◌,
 use Rattle.std.specs.Prelude.{nat_lt, if◌then◌else◌}
 use Rattle.std.specs.List.{AllByRecursion}
 use Rattle.std.specs.Option.{option_map}
+use Rattle.std.specs.Prelude.{IfSome, Vec}
 use Rattle.std.specs.declared.rc.Rc.{Rc}
 use Rattle.std.proofs.lemmas.Bool.{ltb-false}
 use Rattle.std.proofs.lemmas.List.{take_all, take_more}
@@ -16,7 +17,9 @@ use Rattle.cm_layout.specs.Flattening.{flat_of, flat_of_fields, flat_of_payload}
 use Rattle.cm_layout.specs.Shapes.{LayoutTy, layout_of_fields_at}
 use Rattle.cm_abi_model.specs.Receives.{call_kinds}
 use Rattle.cm_abi_model.specs.Requests.{is_spilled}
-use Rattle.cm_abi_model.specs.Views.{Way, params, results}
+use Rattle.cm_abi_model.specs.Views.{Way, flat_limit, params, results}
+use Rattle.cm_abi_slots.specs.Steps.{AreStepsOf, steps_for}
+use Rattle.cm_abi_slots.specs.declared.steps.SlotStep.{SlotStep}
 use Rattle.cm_layout_placed.specs.Placed.{result_fields}
 use Rattle.cm_machine_model.specs.Plan.{one_field}
 use Rattle.cm_machine_links.specs.Standing.{AreCallTypes, IsCallTypes, IsSpelled, first_flat, most_flat, passed_fields}
@@ -74,6 +77,17 @@ kinds_that_way same s f results most l b flat ks laid at spilled first is = resu
 -- a result goes by memory where it is wide
 pub pointer_of : (types : Fields) (l : LayoutTy) (b : Bool) → l ≡ layout_of_fields_at types → b ≡ nat_lt 1 l.head.width → b ≡ is_spilled results types
 pointer_of types l b laid spilled = spilled ∙ ap (λ (x : LayoutTy). nat_lt 1 x.head.width) laid
+
+-- steps that are kept are those of the types
+steps_listed : (b : Bool) (way : Way) (types : Fields) (o : Option (Vec SlotStep Global)) (l : LayoutTy) → l ≡ layout_of_fields_at types
+    → option_map (λ s. s.items) o ≡ (if b then None else steps_for (flat_limit way) l) → IfSome o (λ s. AreStepsOf way types s.items)
+steps_listed b way types None l laid is = tt
+steps_listed true way types (Some s) l laid is = absurd (cc (is))
+steps_listed false way types (Some s) l laid is = sym (ap (steps_for (flat_limit way)) laid) ∙ sym is
+
+pub steps_kept : (way : Way) (types : Fields) (o : Option (Vec SlotStep Global)) (most nodes : ℕ) (l : LayoutTy) → l ≡ layout_of_fields_at types
+    → option_map (λ s. s.items) o ≡ (if nat_lt most nodes then None else steps_for (flat_limit way) l) → IfSome o (λ s. AreStepsOf way types s.items)
+steps_kept way types o most nodes l laid is = steps_listed (nat_lt most nodes) way types o l laid is
 
 -- ---- spelled
 

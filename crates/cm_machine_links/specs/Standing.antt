@@ -1,15 +1,18 @@
 -- What is made of the types and the core functions of a set, one for one.
-use Rattle.std.specs.Prelude.{◌≡◌, ⊤, ℕ, ◌+◌, true, List, [], ◌∷◌, Some, is_some, take}
+use Rattle.std.specs.Prelude.{◌≡◌, ⊤, ℕ, ◌+◌, true, List, [], ◌∷◌, Option, Some, None, is_some}
+use Rattle.std.specs.Prelude.{take}
 use Rattle.std.specs.List.{AllByRecursion}
 use Rattle.std.specs.Option.{option_map}
 use Rattle.std.specs.declared.alloc.Global.{Global}
 use Rattle.std.specs.declared.rc.Rc.{Rc}
 use Rattle.cm_types.specs.Spellable.{are_spellable, is_spellable_payload}
-use Rattle.cm_types.specs.Types.{Fields, FuncTy}
+use Rattle.cm_types.specs.Types.{Fields, FuncTy, Ty}
 use Rattle.cm_types.specs.declared.core_value.CoreKind.{CoreKind}
 use Rattle.cm_types.specs.declared.limits.TheConstants.{MAX_FLAT_PARAMS, MAX_FLAT_RESULTS}
 use Rattle.cm_layout.specs.Flattening.{flat_of_fields, flat_of_payload}
 use Rattle.cm_layout_placed.specs.Placed.{result_fields}
+use Rattle.cm_types_arena.specs.Summaries.{summary_of}
+use Rattle.cm_types_arena.specs.TypeDefs.{params_type}
 use Rattle.cm_types_arena.specs.Replaced.{Standing, replaced, replaced_fields}
 use Rattle.cm_abi_model.specs.Requests.{is_spilled}
 use Rattle.cm_abi_model.specs.Views.{Way, params, results}
@@ -37,6 +40,15 @@ passed_fields f results = result_fields f.result
 abbrev pub first_flat : FuncTy → Way → List CoreKind
 first_flat f params = take MAX_FLAT_PARAMS (flat_of_fields f.params)
 first_flat f results = take MAX_FLAT_PARAMS (flat_of_payload f.result)
+
+-- how many nodes their types have
+abbrev pub result_nodes : Option Ty → ℕ
+result_nodes None = 0
+result_nodes (Some t) = (summary_of t).nodes
+
+abbrev pub passed_nodes : FuncTy → Way → ℕ
+passed_nodes f params = (summary_of (params_type f)).nodes
+passed_nodes f results = result_nodes f.result
 
 -- how many core values at most pass them flat (CanonicalABI.md, "Flattening")
 abbrev pub most_flat : Way → ℕ

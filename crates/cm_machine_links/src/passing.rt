@@ -1,7 +1,7 @@
 //! What functions pass.
 
 ghost use Rattle.std.specs.Prelude.{◌≡◌, ◌<◌, ◌∷◌, [], IfOk, OnOk, if◌then◌else◌, length, map};
-ghost use Rattle.std.specs.Prelude.{nat_lt, true};
+ghost use Rattle.std.specs.Prelude.{None, nat_lt, option_map, true};
 ghost use Rattle.cm_types.specs.declared.core_value.CoreKind.TheVariants.{I32};
 ghost use Rattle.cm_types.specs.Spellable.{are_spellable, is_spellable_payload};
 ghost use Rattle.cm_layout.specs.Layouts.{layout_of};
@@ -10,12 +10,16 @@ ghost use Rattle.cm_types_arena.specs.Places.{funcs_of, types_of};
 ghost use Rattle.cm_types_arena.specs.TypeDefs.{func_at};
 ghost use Rattle.cm_types_arena.specs.Replaced.{Standing, replaced_func};
 ghost use Rattle.cm_layout_placed.specs.Placed.{first_kinds, kinds_in, layouts_in, types_by};
+ghost use Rattle.cm_abi_model.specs.Views.{flat_limit};
 ghost use Rattle.cm_abi_model.specs.Ways.{way_of};
+ghost use Rattle.cm_abi_slots.specs.Steps.{steps_for};
 ghost use Rattle.cm_machine_parts.specs.Links.{ArePassed};
 ghost use Rattle.cm_machine_links.specs.Standing.{AreCallTypes, IsCallTypes, IsSpelled};
 ghost use Rattle.cm_machine_links.specs.Standing.{first_flat, most_flat, passed_fields};
+ghost use Rattle.cm_machine_links.specs.Standing.{passed_nodes};
 
 use cm_abi_model::Way;
+use cm_abi_slots::{SlotStep, slot_steps};
 use cm_layout::Layout;
 use cm_layout_placed::{Kinds, Layouts};
 use cm_machine_parts::{CallTypes, PassedTypes};
@@ -100,6 +104,42 @@ fn most_flat(way: Way) -> usize
     }
 }
 
+/// The most nodes that the types of what a function passes one way may have, for steps to be
+/// listed: so a function costs what its definition says, however large its types are.
+const MAX_LISTED_NODES: u32 = 64;
+
+/// How many nodes the types have that a function passes that way.
+fn node_count(way: Way, types: &Types, func: usize) -> u32
+    requires { func < length (funcs_of types.now) }
+    ensures { result ≡ passed_nodes (func_at (funcs_of types.now) func) (way_of way) }
+{
+    match way {
+        Way::Params => types.params_summary(func).nodes,
+        Way::Results => match types.func_result(func) {
+            Some(place) => types.summary(place).nodes,
+            None => 0,
+        },
+    }
+}
+
+/// What each core value becomes that passes what has this layout, where these are numbers alone;
+/// `None` too where its types have more than `MAX_LISTED_NODES` nodes.
+fn listed_steps(
+    alloc: Global,
+    way: Way,
+    layout: &Layout,
+    nodes: u32,
+) -> Result<Option<Vec<SlotStep>>, AllocError>
+    ensures { IfOk result (λ o. option_map (λ s. s.items) o
+        ≡ (if nat_lt MAX_LISTED_NODES nodes then None
+        else steps_for (flat_limit (way_of way)) (layout_of layout.now))) }
+{
+    if nodes > MAX_LISTED_NODES {
+        return Ok(None);
+    }
+    slot_steps(alloc, layout, way.flat_limit())
+}
+
 /// What a function passes that way.
 fn passing(
     alloc: Global,
@@ -123,7 +163,13 @@ fn passing(
     let flat = flat_kinds(alloc, way, types, kinds, func)?;
     let spilled = is_spilled(&layout, most_flat(way));
     let kinds = passed_kinds(alloc, spilled, flat)?;
-    Ok(PassedTypes { layout, kinds })
+    let nodes = node_count(way, types, func);
+    let steps = listed_steps(alloc, way, &layout, nodes)?;
+    Ok(PassedTypes {
+        layout,
+        kinds,
+        steps,
+    })
 }
 
 /// Each parameter of a function is of a type that a file can spell. It does nothing: the arena's

@@ -1,11 +1,12 @@
 -- What the link of a lowered function stands for among the rules.
-use Rattle.std.specs.Prelude.{◌≡◌}
+use Rattle.std.specs.Prelude.{◌≡◌, IfSome}
 use Rattle.cm_types.specs.Types.{Fields}
 use Rattle.cm_layout.specs.Layouts.{layout_of}
 use Rattle.cm_layout.specs.Shapes.{layout_of_fields_at}
 use Rattle.cm_abi_model.specs.Receives.{call_kinds}
 use Rattle.cm_abi_model.specs.Requests.{is_spilled}
 use Rattle.cm_abi_model.specs.Views.{Way, params, results}
+use Rattle.cm_abi_slots.specs.Steps.{AreStepsOf}
 use Rattle.cm_machine_model.specs.Plan.{Link, Side, types_of}
 use Rattle.cm_machine_parts.specs.declared.link.LiftLowerOptions.{LiftLowerOptions}
 use Rattle.cm_machine_parts.specs.declared.link.Link.{Link as CodedLink}
@@ -15,10 +16,12 @@ use Rattle.cm_machine_parts.specs.declared.link.PassedTypes.{PassedTypes}
 abbrev pub side_in : LiftLowerOptions → Side
 side_in o = record { encoding = o.encoding; realloc = o.realloc }
 
--- the layout of the types that are passed that way, and the kinds of the core values that pass them
+-- the layout of the types that are passed that way, and the kinds of the core values that pass
+-- them; where steps are kept, they are those of the types, which are then numbers alone
 pub record ArePassed (way : Way) (types : Fields) (p : PassedTypes) : Type 0 where
   pub layout_is : layout_of p.layout ≡ layout_of_fields_at types
   pub kinds_are : p.kinds.items ≡ call_kinds way types
+  pub steps_are : IfSome p.steps (λ s. AreStepsOf way types s.items)
 
 -- The link of the code stands for this one: the same functions and options, the layouts and the
 -- core kinds of its types; and the caller passes a pointer where the result is spilled.

@@ -11,10 +11,7 @@ use cm_types::{CoreKind, CoreValue};
 fn is_of(value: CoreValue, kind: CoreKind) -> bool
     ensures { IsTrue result ↔ (kind_of value ≡ kind) }
 {
-    match value {
-        CoreValue::I32(_) => matches!(kind, CoreKind::I32),
-        CoreValue::I64(_) => matches!(kind, CoreKind::I64),
-    }
+    matches!(value, CoreValue::I32(_)) == matches!(kind, CoreKind::I32)
 }
 
 /// Whether core values are of these kinds, one for one.

@@ -1,6 +1,7 @@
 //! What a lowered function comes to.
 
 use cm_abi_model::StringEncoding;
+use cm_abi_slots::SlotStep;
 use cm_layout::Layout;
 use cm_types::CoreKind;
 use std::rc::Rc;
@@ -13,6 +14,8 @@ pub struct PassedTypes {
     /// The kinds of the core values that pass them: those that a lifted function takes, or gives.
     /// A lowered one takes one more, a pointer, where a result goes by memory, and gives none then.
     pub kinds: Vec<CoreKind>,
+    /// What each of these core values becomes, where they are numbers alone, which pass at once.
+    pub steps: Option<Vec<SlotStep>>,
 }
 
 /// What a function passes.

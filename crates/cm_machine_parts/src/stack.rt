@@ -1,7 +1,7 @@
 //! The stack of frames, of at most `MAX_FRAMES`, in room that is made once.
 
 ghost use Rattle.std.specs.Prelude.{◌≡◌, ◌<◌, ◌≤◌, [], ◌∷◌, length, IfOk, reverse, slice_index};
-ghost use Rattle.std.specs.Prelude.{slice_set, vec_capacity, vec_len};
+ghost use Rattle.std.specs.Prelude.{Some, slice_set, vec_capacity, vec_len};
 ghost use Rattle.cm_machine_model.specs.Stack.{top_of, below_top};
 ghost use Rattle.cm_machine_model.specs.Work.{top_call};
 
@@ -58,6 +58,17 @@ impl Stack {
         ensures { result ≡ top_of self.now.frames }
     {
         self.frames.last().copied()
+    }
+
+    /// The frame on top, where one stands.
+    pub fn last(&self) -> Frame
+        requires { 0 < length self.now.frames }
+        ensures { top_of self.now.frames ≡ Some result }
+    {
+        match self.frames.last() {
+            Some(frame) => *frame,
+            None => unreachable!(),
+        }
     }
 
     /// The place of the topmost frame of a call, from 0 at the bottom: frames of destructors above

@@ -45,8 +45,27 @@ pass_arguments-requires c =
       );
     }
 
-pub returns-clause-row : goal.returns-clause-row
-returns-clause-row c = λ plan l called.
+pub enter_with_numbers-requires : goal.enter_with_numbers-requires
+enter_with_numbers-requires c =
+    let y = c.requires.called in
+    let x = c.in-Some.ensures.some y.1 y.2.link_is in
+    record {
+      may = (
+        y.0,
+        y.1,
+        c.args.args.now,
+        record {
+          called = y.2;
+          leaves = c.may_leave.ensures.0 (cc);
+          room = c.has_room.ensures.0 (cc);
+          given = record { shape = x.0; slots_are = x.1; place_is = x.2 };
+        },
+      );
+      steps = λ l is. c.in-Some-steps_of.ensures l is;
+    }
+
+pub returns-in-None-clause-row : goal.returns-in-None-clause-row
+returns-in-None-clause-row c = λ plan l called.
     let x = c.in-Some.ensures.some l called.link_is in
     let s = state_of c.args.state.now in
     let opened : is_closed s l.instance ≡ false = ap (is_closed s) (sym called.link_is.instance_is) ∙ sym c.is_closed.ensures ∙ c.if-is_closed.false in
@@ -56,8 +75,25 @@ returns-clause-row c = λ plan l called.
     (state_of c.pass_arguments.new.state) (λ e st passes. inr (x.0, inr (leaves, inr (opened, inr (room, passes)))))
     (c.pass_arguments.ensures.row plan l c.args.args.now (record { called = called; leaves = leaves; room = room; given = record { shape = x.0; slots_are = x.1; place_is = x.2 } }))
 
-pub returns-clause-kept : goal.returns-clause-kept
-returns-clause-kept c = λ plan l called.
+pub returns-in-None-clause-kept : goal.returns-in-None-clause-kept
+returns-in-None-clause-kept c = λ plan l called.
     let x = c.in-Some.ensures.some l called.link_is in
     c.pass_arguments.ensures.kept plan l c.args.args.now
+    (record { called = called; leaves = c.may_leave.ensures.0 (cc); room = c.has_room.ensures.0 (cc); given = record { shape = x.0; slots_are = x.1; place_is = x.2 } })
+
+pub returns-in-Some-steps_of-clause-row : goal.returns-in-Some-steps_of-clause-row
+returns-in-Some-steps_of-clause-row c = λ plan l called.
+    let x = c.in-Some.ensures.some l called.link_is in
+    let s = state_of c.args.state.now in
+    let opened : is_closed s l.instance ≡ false = ap (is_closed s) (sym called.link_is.instance_is) ∙ sym c.is_closed.ensures ∙ c.if-is_closed.false in
+    let leaves = c.may_leave.ensures.0 (cc) in
+    let room = c.has_room.ensures.0 (cc) in
+    meets_by (PassesArguments s (actor c.args.top.now) c.args.func l c.args.args.now) (CallsLowered s c.args.top.now c.args.func l c.args.args.now) c.enter_with_numbers.result c.enter_with_numbers.new.values
+    (state_of c.enter_with_numbers.new.state) (λ e st passes. inr (x.0, inr (leaves, inr (opened, inr (room, passes)))))
+    (c.enter_with_numbers.ensures.row plan l c.args.args.now (record { called = called; leaves = leaves; room = room; given = record { shape = x.0; slots_are = x.1; place_is = x.2 } }))
+
+pub returns-in-Some-steps_of-clause-kept : goal.returns-in-Some-steps_of-clause-kept
+returns-in-Some-steps_of-clause-kept c = λ plan l called.
+    let x = c.in-Some.ensures.some l called.link_is in
+    c.enter_with_numbers.ensures.kept plan l c.args.args.now
     (record { called = called; leaves = c.may_leave.ensures.0 (cc); room = c.has_room.ensures.0 (cc); given = record { shape = x.0; slots_are = x.1; place_is = x.2 } })

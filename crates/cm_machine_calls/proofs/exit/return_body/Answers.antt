@@ -47,11 +47,23 @@ pass_result-requires-clause-few c =
     let are : map kind_of c.args.given.now ≡ c.kinds_of.result.now = c.are_of.ensures.0 (cc) in
     omega (arith, length-map c.args.given.now kind_of, ap (λ (ks : List CoreKind). length ks) are, ap (λ (ks : List CoreKind). length ks) (c.kinds_of.ensures x.1 x.2.link_is), few_kinds results (types_of x.1 results))
 
-pub returns-clause-row : goal.returns-clause-row
-returns-clause-row c = λ plan l y.
+pub returns-in-None-clause-row : goal.returns-in-None-clause-row
+returns-in-None-clause-row c = λ plan l y.
     let s = c.args.state.now in
     let are = subst (λ (ks : List CoreKind). AreOf ks c.args.given.now) (c.kinds_of.ensures l y.link_is) (c.are_of.ensures.0 (cc)) in
     let top = top_call plan l c.args.call.now s.stack.frames y.top y.runs.valid.stack y.on_top y.is_call y.reaches in
     let none = subst (λ (n : ℕ). HasNoBorrows (table_at (state_of s).tables n) (top_place (state_of s))) top.instance ((c.has_borrows.ensures y.top y.on_top y.runs.kept.counted).0 c.if-has_borrows.false) in
     meets_by (ReturnsResult (state_of s) l c.args.call.now c.args.given.now) (ReturnsIn phase.Body (state_of s) l c.args.call.now c.args.given.now) c.pass_result.result c.pass_result.new.values
     (state_of c.pass_result.new.state) (λ e st x. inr (are, inr (none, x))) (c.pass_result.ensures.row plan l y)
+
+pub returns-in-Some-clause-row : goal.returns-in-Some-clause-row
+returns-in-Some-clause-row c = λ plan l y.
+    let s = c.args.state.now in
+    let are = subst (λ (ks : List CoreKind). AreOf ks c.args.given.now) (c.kinds_of.ensures l y.link_is) (c.are_of.ensures.0 (cc)) in
+    let top = top_call plan l c.args.call.now s.stack.frames y.top y.runs.valid.stack y.on_top y.is_call y.reaches in
+    let none = subst (λ (n : ℕ). HasNoBorrows (table_at (state_of s).tables n) (top_place (state_of s))) top.instance ((c.has_borrows.ensures y.top y.on_top y.runs.kept.counted).0 c.if-has_borrows.false) in
+    meets_by (ReturnsResult (state_of s) l c.args.call.now c.args.given.now) (ReturnsIn phase.Body (state_of s) l c.args.call.now c.args.given.now) c.exit_with_numbers.result c.exit_with_numbers.new.values
+    (state_of c.exit_with_numbers.new.state) (λ e st x. inr (are, inr (none, x))) (c.exit_with_numbers.ensures.row plan l y)
+
+pub exit_with_numbers-requires-clause-kinds : goal.exit_with_numbers-requires-clause-kinds
+exit_with_numbers-requires-clause-kinds c = λ l is. subst (λ (ks : List CoreKind). AreOf ks c.args.given.now) (c.kinds_of.ensures l is) (c.are_of.ensures.0 (cc))
