@@ -1,7 +1,5 @@
-mod StepLaws
-mod ReadLaws
-mod SameLaws
-mod PlainSame
-mod WideSpelled
-mod OldLaws
-mod RenameLaws
+mod HeadLaws
+mod MeaningLaws
+mod InstanceLaws
+mod JudgeLaws
+mod FitLaws

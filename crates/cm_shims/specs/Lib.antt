@@ -1,11 +1,4 @@
 pub mod Reasons
-pub mod Steps
-pub mod Renumbered
-pub mod Spaces
-pub mod Instantiated
-pub mod Views
-pub mod Plain
-pub mod PlainViews
-pub mod Reading
-pub mod Widened
-pub mod Renaming
+pub mod Fitting
+pub mod Judging
+pub mod Meanings

@@ -1,83 +1,47 @@
-//! Why bytes are not read as a plain component.
+//! What of that which shims want does not hold.
 
-use cm_binary_forms::DecodeFault;
-use cm_binary_model::LimitFault;
 use thiserror::Error;
 
-/// Why an item of a file with shims is refused, by the number of the reason.
+/// Why what a shim wants does not hold, by the number of the reason.
 #[derive(Clone, Copy, Debug, PartialEq, Eq, Error)]
-pub enum ShimReason {
-    /// An instance of a component, where no shim before it has this index.
-    #[error("no shim has this index")]
-    NoSuchShim,
-    /// A shim imports what its instance is not given: an argument of this sort and name.
-    #[error("an import of the shim is not given")]
-    MissingArgument,
-    /// A type with an index that no type has: of a shim, or of the file where it is an argument or
-    /// an import that is equal to it.
-    #[error("no type has this index")]
-    NoSuchType,
-    /// A function that a shim exports by an index that none of its functions has.
-    #[error("no function of the shim has this index")]
-    NoSuchFunc,
-    /// A shim defines a resource type or the type of an instance.
-    #[error("the shim defines a type of another kind")]
+pub enum FitReason {
+    /// A function has another type than the shim says.
+    #[error("the function has another type than the shim says")]
+    OtherFunc,
+    /// A type is another one than the shim says.
+    #[error("the type is another one than the shim says")]
     OtherType,
-    /// The shims of the instances so far take more than 16,777,216 bytes, each counted once an
-    /// instance.
-    #[error("more than 16777216 bytes of shims")]
-    TooLong,
+    /// A type is no resource type.
+    #[error("the type is no resource type")]
+    NoResource,
+    /// Memory was refused.
+    #[error("memory was refused")]
+    Memory,
 }
 
-impl ShimReason {
+impl FitReason {
     ghost use Rattle.std.specs.Prelude.{◌≡◌};
-    ghost use Rattle.cm_shims.specs.Reasons.{shim_reason_number};
+    ghost use Rattle.cm_shims.specs.Reasons.{fit_reason_number};
 
-    /// The number by which the reason is known, from 1 for `NoSuchShim` to 6 for `TooLong`.
+    /// The number by which the reason is known, from 1 for `OtherFunc` to 4 for `Memory`.
     pub fn number(self) -> u8
-        ensures { result ≡ shim_reason_number self }
+        ensures { result ≡ fit_reason_number self }
     {
         match self {
-            ShimReason::NoSuchShim => 1,
-            ShimReason::MissingArgument => 2,
-            ShimReason::NoSuchType => 3,
-            ShimReason::NoSuchFunc => 4,
-            ShimReason::OtherType => 5,
-            ShimReason::TooLong => 6,
+            FitReason::OtherFunc => 1,
+            FitReason::OtherType => 2,
+            FitReason::NoResource => 3,
+            FitReason::Memory => 4,
         }
     }
 }
 
-/// Why an item of a section is refused, and which: from 0.
-#[derive(Clone, Copy, Debug, PartialEq, Eq)]
-pub(crate) struct ItemFault {
-    pub(crate) item: usize,
-    pub(crate) reason: ShimReason,
-}
-
-/// Why and where a file with shims stands for no plain component. It is shown as `NoSuchShim in
-/// section 3, item 0:` and what the reason means.
+/// Which want does not hold, and how. It is shown as `OtherFunc at want 0:` and what the reason
+/// means.
 #[derive(Clone, Copy, Debug, PartialEq, Eq, Error)]
-#[error("{reason:?} in section {section}, item {item}: {reason}")]
-pub struct PlainFault {
-    /// The section of the file, from 0, custom sections and shims counted.
-    pub section: usize,
-    /// The item in the section, from 0.
-    pub item: usize,
-    pub reason: ShimReason,
-}
-
-/// Why bytes are not read as a plain component.
-#[derive(Clone, Copy, Debug, PartialEq, Eq, Error)]
-pub enum ShimFault {
-    /// They are no component file that may have shims; or memory was refused, with the reason
-    /// `Memory`.
-    #[error("{0}")]
-    Decode(DecodeFault),
-    /// An item of the file is refused.
-    #[error("{0}")]
-    Plain(PlainFault),
-    /// The plain component does not keep the limits of files.
-    #[error("{0}")]
-    Limit(LimitFault),
+#[error("{reason:?} at want {want}: {reason}")]
+pub struct FitFault {
+    /// The want, from 0.
+    pub want: usize,
+    pub reason: FitReason,
 }

@@ -1,19 +1,13 @@
-//! Files of real tools: component files that may have shims, read as plain components.
+//! Files of real tools: component files that may have shims, and whether what these want holds.
 //!
 //! A shim is a nested component that renames what it is given and does nothing else.
 #![tactic(auto)]
 
-mod arguments;
 mod fault;
-mod instantiated;
+mod fitting;
+mod judge;
 pub mod laws;
-mod plain;
-mod reading;
-mod renumbered;
-mod spaces;
-mod stop;
-mod wants;
 
-pub use fault::{PlainFault, ShimFault, ShimReason};
-pub use reading::{Shimmed, read};
-pub use wants::Want;
+pub use cm_shims_plain::{Place, Places, PlainFault, ShimFault, ShimReason, Shimmed, Want, read};
+pub use fault::{FitFault, FitReason};
+pub use fitting::fits;

@@ -1,6 +1,7 @@
 //! `validate`: all index spaces of a component, or the first fault.
 #![tactic(auto)]
 
+mod again;
 mod canons;
 mod checked;
 mod checking;
@@ -21,6 +22,7 @@ pub use cm_validate_core::GuestExport;
 pub use cm_validate_entries::{ExportEntry, ExportedEntry, FuncEntry, InstanceEntry, MemberEntry};
 pub use cm_validate_items::Resource;
 pub use cm_validate_model::{ValidFault, ValidReason};
+pub use cm_validate_types::TypeEntry;
 pub use entries::{ComponentEntries, ComponentExterns};
 pub use made::{CoreFuncEntry, MadeFunc};
 pub use spaces::IndexSpaces;

@@ -8,6 +8,7 @@ mod pieces;
 mod readers;
 mod sections;
 mod shims;
+mod sweeps;
 mod writers;
 
 use cm_rows::{Driver, Line, NamedFiles, answer_families, word, words_from};
@@ -16,8 +17,8 @@ use std::io;
 use std::process::ExitCode;
 
 /// The families of rows, a file each.
-const FAMILIES: [&str; 6] = [
-    "decoding", "limits", "pieces", "readers", "shims", "writers",
+const FAMILIES: [&str; 7] = [
+    "decoding", "limits", "pieces", "readers", "shims", "sweeps", "writers",
 ];
 
 /// The state between rows: files by their names.

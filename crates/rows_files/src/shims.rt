@@ -1,16 +1,27 @@
 //! Rows on files that may have shims.
 
 use crate::outcomes::{write_fault, write_outcome};
+use crate::sweeps::write_swept;
+use cm_binary::DecodeReason;
 use cm_rows::{Line, NamedFiles, word};
-use cm_shims::{PlainFault, ShimFault, Want, read};
+use cm_shims::{FitReason, Places, PlainFault, ShimFault, Shimmed, Want, fits, read};
+use cm_validate_spaces::{ValidFault, ValidReason, validate};
 use std::alloc::Global;
 
-/// The answer to `read SOURCE`.
+/// The answer to `read SOURCE`, `fits SOURCE` or `sweep SOURCE`.
 pub fn answer(alloc: Global, files: &mut NamedFiles, words: &[&str], line: &mut Line) {
     match word(words, 0) {
         "read" => {
             let file = files.read(alloc, word(words, 1), line);
             write_read(alloc, &file, line);
+        }
+        "fits" => {
+            let file = files.read(alloc, word(words, 1), line);
+            write_fits(alloc, &file, line);
+        }
+        "sweep" => {
+            let file = files.read(alloc, word(words, 1), line);
+            write_swept(alloc, &file, line);
         }
         _ => line.refuse(),
     }
@@ -26,6 +37,55 @@ fn write_read(alloc: Global, file: &[u8], line: &mut Line) {
         Err(ShimFault::Decode(fault)) => write_fault(line, &fault),
         Err(ShimFault::Plain(fault)) => write_plain_fault(&fault, line),
         Err(ShimFault::Limit(fault)) => line.fault(&fault),
+    }
+}
+
+/// Writes `fits`; the want that does not hold; the fault of the plain component, where it has one,
+/// with its place in the file; or why there is none.
+fn write_fits(alloc: Global, file: &[u8], line: &mut Line) {
+    match read(alloc, file) {
+        Ok(shimmed) => write_fit(alloc, &shimmed, line),
+        Err(fault) => {
+            line.fail_if_memory(is_memory(&fault));
+            line.put("no component");
+        }
+    }
+}
+
+/// Whether there was no memory for reading a file.
+fn is_memory(fault: &ShimFault) -> bool {
+    match fault {
+        ShimFault::Decode(fault) => fault.reason == DecodeReason::Memory,
+        ShimFault::Plain(_) | ShimFault::Limit(_) => false,
+    }
+}
+
+fn write_fit(alloc: Global, shimmed: &Shimmed, line: &mut Line) {
+    match validate(alloc, &shimmed.component) {
+        Ok(checked) => match fits(alloc, &checked, &shimmed.wants) {
+            Ok(()) => line.put("fits"),
+            Err(fault) => {
+                line.fail_if_memory(fault.reason == FitReason::Memory);
+                line.fault(&fault.reason);
+                line.put(" at want ");
+                line.show(fault.want);
+            }
+        },
+        Err(fault) => write_valid_fault(&shimmed.places, &fault, line),
+    }
+}
+
+fn write_valid_fault(places: &Places, fault: &ValidFault, line: &mut Line) {
+    line.fail_if_memory(fault.reason == ValidReason::Memory);
+    line.fault(&fault.reason);
+    match places.place(fault.section, fault.item) {
+        Some(place) => {
+            line.put(" in section ");
+            line.show(place.section);
+            line.put(", item ");
+            line.show(place.item);
+        }
+        None => line.refuse(),
     }
 }
 

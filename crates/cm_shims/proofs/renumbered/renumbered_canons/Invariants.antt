@@ -1,8 +1,0 @@
-use Rattle.std.proofs.Common.{◌≡◌, map}
-use Rattle.cm_binary_model.specs.Trees.{canon_tree}
-use Rattle.cm_shims.specs.Renumbered.{renumbered_canon}
-use Rattle.cm_shims.specs.Spaces.{place, types_of}
-use Rattle.cm_shims.proofs.renumbered.renumbered_canons.Given as goal
-
-abbrev pub invariant-loop-canon : goal.invariant-loop-canon
-invariant-loop-canon l = map canon_tree l.copies.items ≡ map (renumbered_canon (place (types_of l.types))) (map canon_tree l.yielded)

@@ -1,0 +1,9 @@
+mod StepLaws
+mod ReadLaws
+mod SameLaws
+mod PlainSame
+mod WideSpelled
+mod OldLaws
+mod RenameLaws
+mod OwnPlaces
+mod MadeLaws

@@ -1,0 +1,13 @@
+pub mod Reasons
+pub mod Steps
+pub mod Names
+pub mod Renumbered
+pub mod Spaces
+pub mod Instantiated
+pub mod Views
+pub mod Origins
+pub mod Plain
+pub mod PlainViews
+pub mod Reading
+pub mod Widened
+pub mod Renaming
