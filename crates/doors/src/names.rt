@@ -65,5 +65,7 @@ pub mod front {
     pub use huxarte::components::{
         Desc, Externs, ItemDesc, Items, NamedDesc, NamedItem, Placed, Signature,
     };
+    pub use huxarte::faults::{NamedFile, Shown};
+    pub use huxarte::functions::{CoreFuncType, Described, Functions, Lift};
     pub use huxarte::{LoadFault, load};
 }

@@ -11,7 +11,7 @@ use Rattle.cm_validate_model.specs.declared.fault.ValidFault.{ValidFault}
 use Rattle.cm_validate_model.specs.declared.fault.ValidReason.TheVariants as valid_reason
 use Rattle.cm_validate_model.specs.Spaces.{Spaces, spaces_of}
 use Rattle.cm_validate_model.specs.Valid.{IsFaultOf, IsValid}
-use Rattle.cm_validate_spaces.specs.Walks.{IsFineBefore}
+use Rattle.cm_validate_functions.specs.cm_validate_spaces.Walks.{IsFineBefore}
 use Rattle.cm_match_model.specs.declared.fault.LinkFault.{LinkFault}
 use Rattle.cm_match_model.specs.declared.fault.LinkReason.TheVariants as link_reason
 use Rattle.cm_match_model.specs.Links.{CanBeLinked, IsLinkFault}

@@ -6,6 +6,7 @@
 
 mod fault;
 mod loading;
+mod shown;
 
 pub use cm_binary::{Component, DecodeFault, decode, encode};
 pub use cm_machine::{Event, Guest, Misuse, Move, Player, SeeingGuest, Set, Trap};
@@ -14,6 +15,11 @@ pub use cm_types::{CoreKind, CoreValue};
 pub use cm_validate::{Checked, ValidFault, validate};
 pub use fault::LoadFault;
 pub use loading::load;
+
+/// Faults in words, with names: which file, which import, and who exports the name.
+pub mod faults {
+    pub use cm_tool_faults::{NamedFile, Shown};
+}
 
 /// Component files: their bytes, whole, in pieces or from readers, and the trees that they spell.
 pub mod files {
@@ -41,6 +47,11 @@ pub mod components {
         InstanceEntry, Items, MadeFunc, MemberEntry, NamedDesc, NamedItem, Resource, Signature,
         ValidFault, ValidReason, signature, validate,
     };
+}
+
+/// The core functions of a component, by number and by name.
+pub mod functions {
+    pub use cm_validate_functions::{CoreFuncType, Described, Functions, Lift, StringEncoding};
 }
 
 /// WIT texts and the worlds in them.
