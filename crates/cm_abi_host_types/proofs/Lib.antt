@@ -1,0 +1,5 @@
+pub mod IndexedLemmas
+pub mod IndexedLaws
+pub mod SeesLaws
+pub mod LeafLaws
+pub mod TypedRows

@@ -1,0 +1,4 @@
+pub mod Indexed
+pub mod Rows
+pub mod HostTypes
+pub mod Sees
