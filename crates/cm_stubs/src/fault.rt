@@ -4,8 +4,8 @@ ghost use Rattle.std.specs.Prelude.{◌≡◌};
 ghost use Rattle.cm_stubs.specs.Faults.{fault_number};
 ghost use Rattle.cm_stubs.specs.declared.fault.StubFault.TheVariants as stub_fault;
 
-use cm_binary_model::LimitFault;
 use cm_match::LinkFault;
+use cm_stubs_written::DraftFault;
 use cm_validate_signature::ValidFault;
 use std::alloc::{AllocError, AllocFailed};
 use thiserror::Error;
@@ -19,8 +19,9 @@ pub enum StubFault {
     /// The stub would have more types than a file may have.
     #[error("the stub would have more than 4096 types")]
     TooMany,
-    /// The stub would have more bytes than a file may have.
-    #[error("the stub would have more than 16777216 bytes")]
+    /// The stub, or what is asked of it, would have more bytes than a file may have: the names, and
+    /// the items of each instance, also where several are of one type.
+    #[error("the stub, or what is asked of it, would have more than 16777216 bytes")]
     TooLong,
     /// A function passes handles of a resource that no instance has, up to and with its own.
     #[error("no instance up to its own has the resource of a function's handle")]
@@ -73,11 +74,13 @@ impl<T: Drop> From<AllocFailed<T>> for StubFault {
     }
 }
 
-impl From<LimitFault> for StubFault {
-    fn from(fault: LimitFault) -> StubFault {
+impl From<DraftFault> for StubFault {
+    fn from(fault: DraftFault) -> StubFault {
         match fault {
-            LimitFault::TooMany => StubFault::TooMany,
-            LimitFault::TooLong | LimitFault::NotAModule => StubFault::TooLong,
+            DraftFault::TooMany => StubFault::TooMany,
+            DraftFault::TooLong => StubFault::TooLong,
+            DraftFault::NoResource => StubFault::NoResource,
+            DraftFault::Memory => StubFault::Memory,
         }
     }
 }

@@ -5,22 +5,33 @@ ghost use Rattle.std.specs.List.{AllByRecursion};
 ghost use Rattle.cm_validate_model.specs.Valid.{IsValid};
 ghost use Rattle.cm_stubs.specs.Stubs.{IsCaller, IsProvider, LinksOver, LinksUnder};
 
-use crate::asked::{Asked, exported_names_of, names_of};
 use crate::checked::{checked_of, is_caller, is_provider, link_over, link_under};
 use crate::fault::StubFault;
-use crate::{calling, providing};
 use cm_binary_model::Component;
-use cm_match::{Checked, LinkFault, LinkReason};
+use cm_match::{Checked, ExportEntry, LinkFault, LinkReason};
+use cm_stubs_written::{Asked, caller_written, names_of, provider_written};
 use cm_types::ExternName;
 use cm_types_signatures::Signature;
 use cm_validate_signature::{signature, validate};
-use std::alloc::Global;
+use std::alloc::{AllocError, Global};
 
 /// What these import, list by list, and the names of what they export.
 #[derive(Drop)]
 struct AllAsked<'a> {
     asked: Vec<Asked<'a>>,
     exported: Vec<Vec<ExternName>>,
+}
+
+/// The names of what a valid component exports, in order.
+fn exported_names_of(
+    alloc: Global,
+    exports: &[ExportEntry<'_>],
+) -> Result<Vec<ExternName>, AllocError> {
+    let mut names = Vec::with_capacity(alloc, exports.len())?;
+    for export in exports {
+        names.push(export.name.clone()?)?;
+    }
+    Ok(names)
 }
 
 /// What signatures import and export.
@@ -54,14 +65,14 @@ fn asked_of_components<'a>(
 /// The provider of what valid components import, which is not judged yet.
 fn provider_of(alloc: Global, components: &[Checked<'_>]) -> Result<Component, StubFault> {
     let AllAsked { asked, exported } = asked_of_components(alloc, components)?;
-    providing::written(alloc, &asked, &exported)
+    Ok(provider_written(alloc, &asked, &exported)?)
 }
 
 /// The caller of what a signature exports, which is not judged yet.
 fn caller_of(alloc: Global, of: &Signature) -> Result<Component, StubFault> {
     let imports = Asked::of_externs(alloc, of.types(), of.imports())?;
     let exports = Asked::of_externs(alloc, of.types(), of.exports())?;
-    calling::written(alloc, &imports, &exports)
+    Ok(caller_written(alloc, &imports, &exports)?)
 }
 
 /// The signature of the last of these components. They can't be linked where there is none.
@@ -98,14 +109,17 @@ fn last_signature(alloc: Global, components: &[Component]) -> Result<Signature, 
 /// stops: the moves of a guest stand in for them.
 ///
 /// `TooMany` comes where the stub would have more types than a file may have, `TooLong` where it
-/// would have more bytes, `NoResource` where a function passes handles of a resource that none of
-/// its signature's imports has, `NotValid` where the stub is not valid, and `Memory` where there is
-/// no memory. `Component` and `NotLinked` do not come.
+/// would have more bytes, or what is asked has more, `NoResource` where a function passes handles
+/// of a resource that none of its signature's imports has, `NotValid` where the stub is not valid,
+/// and `Memory` where there is no memory. `Component` and `NotLinked` do not come.
+///
+/// A function is lifted for each instance that has it: N instances of one type of M functions make
+/// N times M.
 pub fn provider(alloc: Global, signatures: &[Signature]) -> Result<Component, StubFault>
     ensures { IfOk result IsProvider }
 {
     let AllAsked { asked, exported } = asked_of_signatures(alloc, signatures)?;
-    let stub = providing::written(alloc, &asked, &exported)?;
+    let stub = provider_written(alloc, &asked, &exported)?;
     is_provider(alloc, &stub)?;
     Ok(stub)
 }
@@ -137,6 +151,8 @@ pub fn provider_for(alloc: Global, components: &[Component]) -> Result<Component
 ///
 /// The faults are those of `provider`; `NoResource` comes where a function passes handles of a
 /// resource that neither an instance before it has, nor one that is imported.
+///
+/// An instance type is written, and its functions are lowered, for each instance of it.
 pub fn caller(alloc: Global, of: &Signature) -> Result<Component, StubFault>
     ensures { IfOk result IsCaller }
 {

@@ -1,7 +1,7 @@
 //! What a stub is asked to export or to import: one side of a component or a world.
 
-use crate::fault::StubFault;
-use cm_match::ExportEntry;
+use cm_binary_model::MAX_FILE_BYTES;
+use cm_stubs_drafts::DraftFault;
 use cm_types::{ExternName, ExternNameForm, NameFault};
 use cm_types_arena::{Extern, ExternDesc, Types};
 use cm_types_signatures::{Desc, Externs, Items, NamedDesc};
@@ -9,14 +9,14 @@ use std::alloc::{AllocError, Global};
 
 /// Imports or exports in order, with the arena of their types.
 #[derive(Drop)]
-pub(crate) struct Asked<'a> {
+pub struct Asked<'a> {
     pub types: &'a Types,
     pub externs: Vec<NamedDesc<'a>>,
 }
 
 impl<'a> Asked<'a> {
     /// These imports or exports of a signature, with the arena of its types.
-    pub(crate) fn of_externs(
+    pub fn of_externs(
         alloc: Global,
         types: &'a Types,
         listed: &'a Externs,
@@ -31,7 +31,7 @@ impl<'a> Asked<'a> {
     }
 
     /// These imports of a valid component, with the arena of its types.
-    pub(crate) fn of_imports(
+    pub fn of_imports(
         alloc: Global,
         types: &'a Types,
         imports: &'a [Extern],
@@ -118,34 +118,27 @@ fn text_of(alloc: Global, form: ExternNameForm<'_>) -> Result<String, AllocError
 }
 
 /// The name of this form. Where it is of a signature, what is refused is memory.
-pub(crate) fn name_of(alloc: Global, form: ExternNameForm<'_>) -> Result<ExternName, StubFault> {
+pub(crate) fn name_of(alloc: Global, form: ExternNameForm<'_>) -> Result<ExternName, DraftFault> {
     let text = text_of(alloc, form)?;
     match ExternName::parse(alloc, text.as_str()) {
         Ok(name) => Ok(name),
-        Err(NameFault::Memory) => Err(StubFault::Memory),
-        Err(_) => Err(StubFault::TooLong),
+        Err(NameFault::Memory) => Err(DraftFault::Memory),
+        Err(_) => Err(DraftFault::TooLong),
     }
 }
 
-/// The names of imports or exports, in order.
-pub(crate) fn names_of(alloc: Global, externs: &Externs) -> Result<Vec<ExternName>, StubFault> {
+/// The names of imports or exports, in order. `TooLong` comes where they have more bytes together
+/// than a file may have.
+pub fn names_of(alloc: Global, externs: &Externs) -> Result<Vec<ExternName>, DraftFault> {
     let mut names = Vec::new(alloc);
+    let mut left = MAX_FILE_BYTES;
     for place in 0..externs.len() {
         if let Some(each) = externs.at(place) {
+            left = left
+                .checked_sub(bytes_of(each.name))
+                .ok_or(DraftFault::TooLong)?;
             names.push(name_of(alloc, each.name)?)?;
         }
-    }
-    Ok(names)
-}
-
-/// The names of what a valid component exports, in order.
-pub(crate) fn exported_names_of(
-    alloc: Global,
-    exports: &[ExportEntry<'_>],
-) -> Result<Vec<ExternName>, StubFault> {
-    let mut names = Vec::with_capacity(alloc, exports.len())?;
-    for export in exports {
-        names.push(export.name.clone()?)?;
     }
     Ok(names)
 }

@@ -4,7 +4,7 @@ ghost use Rattle.std.specs.Prelude.{◌<◌, length};
 ghost use Rattle.cm_types_arena.specs.Places.{types_of};
 
 use crate::draft::Draft;
-use crate::fault::StubFault;
+use crate::fault::DraftFault;
 use crate::handles::{Handles, ResourceKey};
 use cm_types::{
     Case, CaseType, DefValType, Field, FuncType, Label, LabeledValType, MAX_NODES, PrimValType,
@@ -18,7 +18,7 @@ use std::collections::{BTreeMap, BTreeSet};
 /// its arena, and the two moves of its resources, one behind the other. A type with no handle has
 /// no moves.
 #[derive(Clone, Copy, PartialEq, Eq, PartialOrd, Ord)]
-pub(crate) struct TypeKey {
+pub struct TypeKey {
     pub of: usize,
     pub place: usize,
     pub first: Option<Move>,
@@ -27,7 +27,7 @@ pub(crate) struct TypeKey {
 
 impl TypeKey {
     /// What stands at a place of a list's arena, where the import of an instance moves it too.
-    pub(crate) fn new(of: usize, placed: Placed, by: Option<Move>) -> TypeKey {
+    pub fn new(of: usize, placed: Placed, by: Option<Move>) -> TypeKey {
         TypeKey {
             of,
             place: placed.place,
@@ -128,7 +128,7 @@ fn definition(
     node: &TypeNode,
     parts: &[ValType],
     resource: u32,
-) -> Result<DefValType, StubFault> {
+) -> Result<DefValType, DraftFault> {
     let first = parts.first().copied();
     let only = first.unwrap_or(ValType::Primitive(PrimValType::Bool));
     Ok(match node {
@@ -159,7 +159,7 @@ fn definition(
 
 /// The definitions that were written, by what they define.
 #[derive(Drop)]
-pub(crate) struct Written {
+pub struct Written {
     alloc: Global,
     values: BTreeMap<TypeKey, u32>,
     funcs: BTreeMap<TypeKey, u32>,
@@ -167,7 +167,7 @@ pub(crate) struct Written {
 
 impl Written {
     /// No definitions.
-    pub(crate) fn new(alloc: Global) -> Written {
+    pub fn new(alloc: Global) -> Written {
         Written {
             alloc,
             values: BTreeMap::new(alloc),
@@ -229,7 +229,7 @@ impl Written {
 
 /// What writes types: the draft that they are written to, and the indices of resources and types.
 #[derive(Drop)]
-pub(crate) struct Writer {
+pub struct Writer {
     pub draft: Draft,
     pub handles: Handles,
     pub written: Written,
@@ -237,7 +237,7 @@ pub(crate) struct Writer {
 
 impl Writer {
     /// Nothing is written.
-    pub(crate) fn new(alloc: Global) -> Writer {
+    pub fn new(alloc: Global) -> Writer {
         Writer {
             draft: Draft::new(alloc),
             handles: Handles::new(alloc),
@@ -246,20 +246,20 @@ impl Writer {
     }
 
     /// Begins to declare the type of an instance: what is declared in it is its own.
-    pub(crate) fn begin_instance(&mut self) {
+    pub fn begin_instance(&mut self) {
         self.written = Written::new(self.draft.alloc());
         self.draft.begin_instance();
     }
 
     /// Ends the type of the instance that is declared, and answers its index.
-    pub(crate) fn end_instance(&mut self) -> Result<u32, StubFault> {
+    pub fn end_instance(&mut self) -> Result<u32, DraftFault> {
         self.written = Written::new(self.draft.alloc());
         self.handles.end_instance();
         self.draft.end_instance()
     }
 
     /// The index of the resource whose handles a type holds itself, or 0.
-    fn resource_of(&mut self, key: TypeKey, node: &TypeNode) -> Result<u32, StubFault> {
+    fn resource_of(&mut self, key: TypeKey, node: &TypeNode) -> Result<u32, DraftFault> {
         match node {
             TypeNode::Own(id) | TypeNode::Borrow(id) => {
                 self.handles.index(&mut self.draft, key.resource(*id))
@@ -269,7 +269,7 @@ impl Writer {
     }
 
     /// Writes the definition of a type whose parts are written.
-    fn define(&mut self, types: &Types, key: TypeKey) -> Result<(), StubFault> {
+    fn define(&mut self, types: &Types, key: TypeKey) -> Result<(), DraftFault> {
         if key.place >= types.len() {
             return Ok(());
         }
@@ -284,7 +284,7 @@ impl Writer {
     }
 
     /// The index of a type, which is written where it was not, behind what it holds.
-    pub(crate) fn type_index(&mut self, types: &Types, key: TypeKey) -> Result<u32, StubFault> {
+    pub fn type_index(&mut self, types: &Types, key: TypeKey) -> Result<u32, DraftFault> {
         let key = key.at(types, key.place);
         if let Some(index) = self.written.values.get(&key) {
             return Ok(*index);
@@ -297,22 +297,17 @@ impl Writer {
             .values
             .get(&key)
             .copied()
-            .ok_or(StubFault::NoResource)
+            .ok_or(DraftFault::NoResource)
     }
 
     /// The type has another index from now on: the one of its name.
-    pub(crate) fn rename(
-        &mut self,
-        types: &Types,
-        key: TypeKey,
-        index: u32,
-    ) -> Result<(), StubFault> {
+    pub fn rename(&mut self, types: &Types, key: TypeKey, index: u32) -> Result<(), DraftFault> {
         self.written.values.insert(key.at(types, key.place), index)?;
         Ok(())
     }
 
     /// A type where it is used, which is written where it was not.
-    fn val_type(&mut self, types: &Types, key: TypeKey) -> Result<ValType, StubFault> {
+    fn val_type(&mut self, types: &Types, key: TypeKey) -> Result<ValType, DraftFault> {
         if key.place < types.len() && primitive(types.node(key.place)).is_none() {
             return Ok(ValType::Index(self.type_index(types, key)?));
         }
@@ -325,7 +320,7 @@ impl Writer {
         types: &Types,
         func: TypeKey,
         places: &[usize],
-    ) -> Result<Vec<ValType>, StubFault> {
+    ) -> Result<Vec<ValType>, DraftFault> {
         let mut all = Vec::with_capacity(self.draft.alloc(), places.len())?;
         for place in places {
             all.push(self.val_type(types, func.part(*place))?)?;
@@ -335,12 +330,12 @@ impl Writer {
 
     /// The index of the type of a function, which is written where it was not, behind what it
     /// holds.
-    pub(crate) fn func_index(&mut self, types: &Types, key: TypeKey) -> Result<u32, StubFault> {
+    pub fn func_index(&mut self, types: &Types, key: TypeKey) -> Result<u32, DraftFault> {
         if let Some(index) = self.written.funcs.get(&key) {
             return Ok(*index);
         }
         if key.place >= types.func_count() {
-            return Err(StubFault::NoResource);
+            return Err(DraftFault::NoResource);
         }
         let params = self.param_types(types, key, types.func_params(key.place))?;
         let answer = match types.func_result(key.place) {

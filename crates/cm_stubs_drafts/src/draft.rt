@@ -1,6 +1,6 @@
 //! A component while it is written: its sections so far, and how much each index space has.
 
-use crate::fault::StubFault;
+use crate::fault::DraftFault;
 use cm_binary_model::{
     Alias, Canon, Component, CoreInstance, CoreSort, Export, ExportSort, ExternDesc, Import,
     Instance, InstanceExportSort, MAX_FILE_BYTES, MAX_TYPES, Section,
@@ -13,7 +13,7 @@ use std::alloc::Global;
 
 /// How many definitions an index space has (Explainer.md, "Index Spaces").
 #[derive(Clone, Copy)]
-pub(crate) struct Count(u32);
+struct Count(u32);
 
 impl Count {
     /// None.
@@ -22,11 +22,11 @@ impl Count {
     }
 
     /// The index of one more, which is added.
-    fn next(&mut self) -> Result<u32, StubFault> {
+    fn next(&mut self) -> Result<u32, DraftFault> {
         let index = self.0;
         match index.checked_add(1) {
             Some(count) => self.0 = count,
-            None => return Err(StubFault::TooLong),
+            None => return Err(DraftFault::TooLong),
         }
         Ok(index)
     }
@@ -46,7 +46,7 @@ struct Declared {
 /// `TooMany` comes where the types are more than a file may have, `TooLong` where the items, or the
 /// bytes of the names that were spent, are more than a file may have bytes.
 #[derive(Drop)]
-pub(crate) struct Draft {
+pub struct Draft {
     alloc: Global,
     sections: Vec<Section>,
     declared: Option<Declared>,
@@ -64,7 +64,7 @@ pub(crate) struct Draft {
 
 impl Draft {
     /// No sections.
-    pub(crate) fn new(alloc: Global) -> Draft {
+    pub fn new(alloc: Global) -> Draft {
         Draft {
             alloc,
             sections: Vec::new(alloc),
@@ -81,30 +81,30 @@ impl Draft {
     }
 
     /// What allocates.
-    pub(crate) fn alloc(&self) -> Global {
+    pub fn alloc(&self) -> Global {
         self.alloc
     }
 
     /// Takes so many bytes of those that a file may have.
-    pub(crate) fn spend(&mut self, bytes: usize) -> Result<(), StubFault> {
+    pub fn spend(&mut self, bytes: usize) -> Result<(), DraftFault> {
         match self.left.checked_sub(bytes) {
             Some(left) => self.left = left,
-            None => return Err(StubFault::TooLong),
+            None => return Err(DraftFault::TooLong),
         }
         Ok(())
     }
 
     /// Takes one of the types that a file may have.
-    fn spend_type(&mut self) -> Result<(), StubFault> {
+    fn spend_type(&mut self) -> Result<(), DraftFault> {
         match self.types_left.checked_sub(1) {
             Some(left) => self.types_left = left,
-            None => return Err(StubFault::TooMany),
+            None => return Err(DraftFault::TooMany),
         }
         Ok(())
     }
 
     /// Adds a core instance.
-    pub(crate) fn core_instance(&mut self, instance: CoreInstance) -> Result<u32, StubFault> {
+    pub fn core_instance(&mut self, instance: CoreInstance) -> Result<u32, DraftFault> {
         self.spend(1)?;
         match self.sections.last_mut() {
             Some(Section::CoreInstances(items)) => items.push(instance)?,
@@ -117,7 +117,7 @@ impl Draft {
     }
 
     /// Adds an alias.
-    fn alias(&mut self, alias: Alias) -> Result<(), StubFault> {
+    fn alias(&mut self, alias: Alias) -> Result<(), DraftFault> {
         self.spend(1)?;
         match self.sections.last_mut() {
             Some(Section::Aliases(items)) => items.push(alias)?,
@@ -130,7 +130,7 @@ impl Draft {
     }
 
     /// Adds the core function that a core instance exports under a name.
-    pub(crate) fn core_func(&mut self, instance: u32, name: String) -> Result<u32, StubFault> {
+    pub fn core_func(&mut self, instance: u32, name: String) -> Result<u32, DraftFault> {
         self.alias(Alias::CoreInstanceExport {
             sort: CoreSort::Func,
             instance,
@@ -140,7 +140,7 @@ impl Draft {
     }
 
     /// Adds the memory that a core instance exports under a name.
-    pub(crate) fn memory(&mut self, instance: u32, name: String) -> Result<u32, StubFault> {
+    pub fn memory(&mut self, instance: u32, name: String) -> Result<u32, DraftFault> {
         self.alias(Alias::CoreInstanceExport {
             sort: CoreSort::Memory,
             instance,
@@ -150,7 +150,7 @@ impl Draft {
     }
 
     /// Adds the function that an instance exports under a name.
-    pub(crate) fn func_of(&mut self, instance: u32, name: ExternName) -> Result<u32, StubFault> {
+    pub fn func_of(&mut self, instance: u32, name: ExternName) -> Result<u32, DraftFault> {
         self.alias(Alias::InstanceExport {
             sort: InstanceExportSort::Func,
             instance,
@@ -160,7 +160,7 @@ impl Draft {
     }
 
     /// Adds the type that an instance exports under a name.
-    pub(crate) fn type_of(&mut self, instance: u32, name: ExternName) -> Result<u32, StubFault> {
+    pub fn type_of(&mut self, instance: u32, name: ExternName) -> Result<u32, DraftFault> {
         self.alias(Alias::InstanceExport {
             sort: InstanceExportSort::Type,
             instance,
@@ -170,7 +170,7 @@ impl Draft {
     }
 
     /// Adds a type to those of the component.
-    fn component_type(&mut self, def: DefType) -> Result<u32, StubFault> {
+    fn component_type(&mut self, def: DefType) -> Result<u32, DraftFault> {
         self.spend(1)?;
         self.spend_type()?;
         match self.sections.last_mut() {
@@ -184,20 +184,17 @@ impl Draft {
     }
 
     /// Adds a resource type with the core function of this index as its destructor.
-    pub(crate) fn resource(&mut self, destructor: u32) -> Result<u32, StubFault> {
+    pub fn resource(&mut self, destructor: u32) -> Result<u32, DraftFault> {
         self.component_type(DefType::Resource(Some(destructor)))
     }
 
     /// Adds the type of an instance with these declarations, of which none takes a type.
-    pub(crate) fn instance_type(
-        &mut self,
-        declarations: Vec<Declaration>,
-    ) -> Result<u32, StubFault> {
+    pub fn instance_type(&mut self, declarations: Vec<Declaration>) -> Result<u32, DraftFault> {
         self.component_type(DefType::Instance(declarations))
     }
 
     /// Adds a value type where types are declared.
-    pub(crate) fn value_type(&mut self, def: DefValType) -> Result<u32, StubFault> {
+    pub fn value_type(&mut self, def: DefValType) -> Result<u32, DraftFault> {
         if self.is_declaring() {
             self.declared_type(DeclaredType::Value(def))
         } else {
@@ -206,7 +203,7 @@ impl Draft {
     }
 
     /// Adds the type of a function where types are declared.
-    pub(crate) fn func_type(&mut self, def: FuncType) -> Result<u32, StubFault> {
+    pub fn func_type(&mut self, def: FuncType) -> Result<u32, DraftFault> {
         if self.is_declaring() {
             self.declared_type(DeclaredType::Func(def))
         } else {
@@ -215,14 +212,14 @@ impl Draft {
     }
 
     /// Adds a type to those of the instance type that is declared.
-    fn declared_type(&mut self, ty: DeclaredType) -> Result<u32, StubFault> {
+    fn declared_type(&mut self, ty: DeclaredType) -> Result<u32, DraftFault> {
         self.spend_type()?;
         self.declaration(Declaration::Type(ty))?;
         self.next_declared()
     }
 
     /// Adds a declaration to the instance type that is declared.
-    fn declaration(&mut self, declaration: Declaration) -> Result<(), StubFault> {
+    fn declaration(&mut self, declaration: Declaration) -> Result<(), DraftFault> {
         self.spend(1)?;
         if let Some(declared) = &mut self.declared {
             declared.declarations.push(declaration)?;
@@ -231,7 +228,7 @@ impl Draft {
     }
 
     /// The index of one more type of the instance type that is declared.
-    fn next_declared(&mut self) -> Result<u32, StubFault> {
+    fn next_declared(&mut self) -> Result<u32, DraftFault> {
         match &mut self.declared {
             Some(declared) => declared.types.next(),
             None => self.types.next(),
@@ -239,12 +236,12 @@ impl Draft {
     }
 
     /// Whether the type of an instance is declared.
-    pub(crate) fn is_declaring(&self) -> bool {
+    pub fn is_declaring(&self) -> bool {
         self.declared.is_some()
     }
 
     /// Begins to declare the type of an instance.
-    pub(crate) fn begin_instance(&mut self) {
+    pub fn begin_instance(&mut self) {
         self.declared = Some(Declared {
             declarations: Vec::new(self.alloc),
             types: Count::none(),
@@ -252,7 +249,7 @@ impl Draft {
     }
 
     /// Ends the type of the instance that is declared, and adds it to those of the component.
-    pub(crate) fn end_instance(&mut self) -> Result<u32, StubFault> {
+    pub fn end_instance(&mut self) -> Result<u32, DraftFault> {
         let declarations = match self.declared.take() {
             Some(declared) => declared.declarations,
             None => Vec::new(self.alloc),
@@ -261,24 +258,20 @@ impl Draft {
     }
 
     /// Adds the component's type of this index to those of the instance type that is declared.
-    pub(crate) fn outer_type(&mut self, index: u32) -> Result<u32, StubFault> {
+    pub fn outer_type(&mut self, index: u32) -> Result<u32, DraftFault> {
         self.declaration(Declaration::OuterType(OuterType { count: 1, index }))?;
         self.next_declared()
     }
 
     /// Declares that the instance exports a function of the type of this index.
-    pub(crate) fn declare_func(&mut self, name: ExternName, ty: u32) -> Result<(), StubFault> {
+    pub fn declare_func(&mut self, name: ExternName, ty: u32) -> Result<(), DraftFault> {
         self.spend(name.as_str().len())?;
         let desc = ExportDesc::Func(ty);
         self.declaration(Declaration::Export(ExportDecl { name, desc }))
     }
 
     /// Declares that the instance exports a type, which is one more.
-    pub(crate) fn declare_type(
-        &mut self,
-        name: ExternName,
-        bound: TypeBound,
-    ) -> Result<u32, StubFault> {
+    pub fn declare_type(&mut self, name: ExternName, bound: TypeBound) -> Result<u32, DraftFault> {
         self.spend(name.as_str().len())?;
         let desc = ExportDesc::Type(bound);
         self.declaration(Declaration::Export(ExportDecl { name, desc }))?;
@@ -286,7 +279,7 @@ impl Draft {
     }
 
     /// Adds a canonical definition.
-    fn canon(&mut self, canon: Canon) -> Result<(), StubFault> {
+    fn canon(&mut self, canon: Canon) -> Result<(), DraftFault> {
         self.spend(1)?;
         match self.sections.last_mut() {
             Some(Section::Canons(items)) => items.push(canon)?,
@@ -299,19 +292,19 @@ impl Draft {
     }
 
     /// Adds the core function that a canonical definition makes.
-    pub(crate) fn canon_core(&mut self, canon: Canon) -> Result<u32, StubFault> {
+    pub fn canon_core(&mut self, canon: Canon) -> Result<u32, DraftFault> {
         self.canon(canon)?;
         self.core_funcs.next()
     }
 
     /// Adds the function that a lift makes.
-    pub(crate) fn lift(&mut self, canon: Canon) -> Result<u32, StubFault> {
+    pub fn lift(&mut self, canon: Canon) -> Result<u32, DraftFault> {
         self.canon(canon)?;
         self.funcs.next()
     }
 
     /// Adds an import.
-    fn import(&mut self, import: Import) -> Result<(), StubFault> {
+    fn import(&mut self, import: Import) -> Result<(), DraftFault> {
         self.spend(import.name.as_str().len())?;
         match self.sections.last_mut() {
             Some(Section::Imports(items)) => items.push(import)?,
@@ -324,21 +317,21 @@ impl Draft {
     }
 
     /// Adds an imported function of the type of this index.
-    pub(crate) fn import_func(&mut self, name: ExternName, ty: u32) -> Result<u32, StubFault> {
+    pub fn import_func(&mut self, name: ExternName, ty: u32) -> Result<u32, DraftFault> {
         let desc = ExternDesc::Func(ty);
         self.import(Import { name, desc })?;
         self.funcs.next()
     }
 
     /// Adds an imported instance of the type of this index.
-    pub(crate) fn import_instance(&mut self, name: ExternName, ty: u32) -> Result<u32, StubFault> {
+    pub fn import_instance(&mut self, name: ExternName, ty: u32) -> Result<u32, DraftFault> {
         let desc = ExternDesc::Instance(ty);
         self.import(Import { name, desc })?;
         self.instances.next()
     }
 
     /// Adds an instance of definitions under names.
-    pub(crate) fn instance(&mut self, instance: Instance) -> Result<u32, StubFault> {
+    pub fn instance(&mut self, instance: Instance) -> Result<u32, DraftFault> {
         self.spend(1)?;
         match self.sections.last_mut() {
             Some(Section::Instances(items)) => items.push(instance)?,
@@ -351,12 +344,12 @@ impl Draft {
     }
 
     /// Adds an export.
-    pub(crate) fn export(
+    pub fn export(
         &mut self,
         name: ExternName,
         sort: ExportSort,
         index: u32,
-    ) -> Result<(), StubFault> {
+    ) -> Result<(), DraftFault> {
         self.spend(name.as_str().len())?;
         let export = Export { name, sort, index };
         match self.sections.last_mut() {
@@ -370,7 +363,7 @@ impl Draft {
     }
 
     /// The component of these core modules and of the sections behind them.
-    pub(crate) fn component(self, modules: Vec<Vec<u8>>) -> Result<Component, StubFault> {
+    pub fn component(self, modules: Vec<Vec<u8>>) -> Result<Component, DraftFault> {
         let Draft {
             alloc,
             sections: behind,

@@ -1,14 +1,11 @@
 //! Components that import what another exports.
 
 use crate::asked::{Asked, bytes_of, name_of};
-use crate::core_module::CoreType;
-use crate::fault::StubFault;
-use crate::handles::{BroughtResource, ResourceKey};
-use crate::host_module::HostModules;
-use crate::types::{TypeKey, Writer};
-use crate::wanted::resource_key;
 use cm_binary_model::{Canon, Component};
 use cm_layout::{Side, flatten_func};
+use cm_stubs_drafts::{
+    BroughtResource, CoreType, Draft, DraftFault, HostModules, ResourceKey, TypeKey, Writer,
+};
 use cm_types::{ExternName, TypeBound};
 use cm_types_arena::{ItemDesc, Types};
 use cm_types_signatures::{Desc, Items, NamedDesc};
@@ -74,15 +71,22 @@ fn resource_of(desc: ItemDesc) -> Option<u64> {
     }
 }
 
-/// The resources that an instance brings.
-fn resources_of(alloc: Global, items: Items<'_>) -> Result<Vec<BroughtResource>, StubFault> {
+/// The resources that an instance brings. Its items are spent of the draft, and the bytes of the
+/// names of these, so that many instances of one type are not gone through for nothing.
+fn resources_of(
+    alloc: Global,
+    draft: &mut Draft,
+    items: Items<'_>,
+) -> Result<Vec<BroughtResource>, DraftFault> {
+    draft.spend(items.len())?;
     let mut resources = Vec::new(alloc);
     for number in 0..items.len() {
         let Some(item) = items.at(number) else {
             continue;
         };
         if let ItemDesc::FreshResource(resource) = item.desc {
-            let key = resource_key(EXPORTED, resource, items.by());
+            draft.spend(bytes_of(item.name))?;
+            let key = ResourceKey::new(EXPORTED, resource, items.by());
             let name = name_of(alloc, item.name)?;
             resources.push(BroughtResource { key, name })?;
         }
@@ -92,12 +96,12 @@ fn resources_of(alloc: Global, items: Items<'_>) -> Result<Vec<BroughtResource>,
 
 impl<'a> Caller<'a> {
     /// What brings resources among the other's imports may be imported.
-    fn add_brought(&mut self, imports: &[NamedDesc<'_>]) -> Result<(), StubFault> {
+    fn add_brought(&mut self, imports: &[NamedDesc<'_>]) -> Result<(), DraftFault> {
         for import in imports {
             let Desc::Instance(items) = import.desc else {
                 continue;
             };
-            let resources = resources_of(self.alloc, items)?;
+            let resources = resources_of(self.alloc, &mut self.writer.draft, items)?;
             if !resources.is_empty() {
                 let name = name_of(self.alloc, import.name)?;
                 self.writer.handles.bring(name, resources)?;
@@ -107,7 +111,7 @@ impl<'a> Caller<'a> {
     }
 
     /// Declares a resource of an instance: whether the instance brings it.
-    fn declare_resource(&mut self, name: ExternName, key: ResourceKey) -> Result<bool, StubFault> {
+    fn declare_resource(&mut self, name: ExternName, key: ResourceKey) -> Result<bool, DraftFault> {
         let draft = &mut self.writer.draft;
         let handles = &mut self.writer.handles;
         let is_new = !handles.is_settled(key);
@@ -122,7 +126,7 @@ impl<'a> Caller<'a> {
     }
 
     /// Declares the resources of an instance: those that it brings.
-    fn declare_resources(&mut self, items: Items<'_>) -> Result<Vec<ImportedItem>, StubFault> {
+    fn declare_resources(&mut self, items: Items<'_>) -> Result<Vec<ImportedItem>, DraftFault> {
         let mut brought = Vec::new(self.alloc);
         for number in 0..items.len() {
             let Some(item) = items.at(number) else {
@@ -131,7 +135,7 @@ impl<'a> Caller<'a> {
             let Some(resource) = resource_of(item.desc) else {
                 continue;
             };
-            let key = resource_key(EXPORTED, resource, items.by());
+            let key = ResourceKey::new(EXPORTED, resource, items.by());
             let name = name_of(self.alloc, item.name)?;
             if self.declare_resource(name.clone()?, key)? {
                 let is = ImportedIs::Resource(key);
@@ -142,7 +146,7 @@ impl<'a> Caller<'a> {
     }
 
     /// Declares the value types of an instance.
-    fn declare_values(&mut self, items: Items<'_>) -> Result<(), StubFault> {
+    fn declare_values(&mut self, items: Items<'_>) -> Result<(), DraftFault> {
         for number in 0..items.len() {
             let Some(item) = items.at(number) else {
                 continue;
@@ -164,7 +168,7 @@ impl<'a> Caller<'a> {
         &mut self,
         listed: Items<'_>,
         items: &mut Vec<ImportedItem>,
-    ) -> Result<(), StubFault> {
+    ) -> Result<(), DraftFault> {
         for number in 0..listed.len() {
             let Some(item) = listed.at(number) else {
                 continue;
@@ -182,7 +186,7 @@ impl<'a> Caller<'a> {
     }
 
     /// The resources that an instance brings are what it exports under their names.
-    fn settle(&mut self, index: u32, items: &[ImportedItem]) -> Result<(), StubFault> {
+    fn settle(&mut self, index: u32, items: &[ImportedItem]) -> Result<(), DraftFault> {
         for item in items {
             if let ImportedIs::Resource(key) = item.is {
                 self.writer.handles.settle(key, index, item.name.clone()?)?;
@@ -196,7 +200,7 @@ impl<'a> Caller<'a> {
         &mut self,
         name: ExternName,
         listed: Items<'_>,
-    ) -> Result<ImportedInstance, StubFault> {
+    ) -> Result<ImportedInstance, DraftFault> {
         self.writer.begin_instance();
         let mut items = self.declare_resources(listed)?;
         self.declare_values(listed)?;
@@ -211,7 +215,7 @@ impl<'a> Caller<'a> {
     fn import_instances(
         &mut self,
         exports: &[NamedDesc<'_>],
-    ) -> Result<Vec<ImportedInstance>, StubFault> {
+    ) -> Result<Vec<ImportedInstance>, DraftFault> {
         let mut instances = Vec::new(self.alloc);
         for export in exports {
             if let Desc::Instance(items) = export.desc {
@@ -224,7 +228,7 @@ impl<'a> Caller<'a> {
     }
 
     /// Imports what are functions among these.
-    fn import_funcs(&mut self, exports: &[NamedDesc<'_>]) -> Result<Vec<ImportedFunc>, StubFault> {
+    fn import_funcs(&mut self, exports: &[NamedDesc<'_>]) -> Result<Vec<ImportedFunc>, DraftFault> {
         let mut funcs = Vec::new(self.alloc);
         for export in exports {
             if let Desc::Func(placed) = export.desc {
@@ -239,9 +243,9 @@ impl<'a> Caller<'a> {
     }
 
     /// Lowers a function of this type for the module `host`, under this name.
-    fn lower(&mut self, name: &str, key: TypeKey, func: u32) -> Result<(), StubFault> {
+    fn lower(&mut self, name: &str, key: TypeKey, func: u32) -> Result<(), DraftFault> {
         if key.place >= self.types.func_count() {
-            return Err(StubFault::NoResource);
+            return Err(DraftFault::NoResource);
         }
         let options = self.modules.options()?;
         let index = self
@@ -255,7 +259,7 @@ impl<'a> Caller<'a> {
     }
 
     /// Lets the module `host` drop handles of the resource type of this index, under this name.
-    fn add_drop(&mut self, name: &str, resource: u32) -> Result<(), StubFault> {
+    fn add_drop(&mut self, name: &str, resource: u32) -> Result<(), DraftFault> {
         let alloc = self.alloc;
         let draft = &mut self.writer.draft;
         let index = draft.canon_core(Canon::ResourceDrop { resource })?;
@@ -265,7 +269,7 @@ impl<'a> Caller<'a> {
     }
 
     /// Adds aliases for the functions of an instance, and for the resources that it brings.
-    fn alias_items(&mut self, instance: &mut ImportedInstance) -> Result<(), StubFault> {
+    fn alias_items(&mut self, instance: &mut ImportedInstance) -> Result<(), DraftFault> {
         let draft = &mut self.writer.draft;
         let handles = &mut self.writer.handles;
         for item in &mut instance.items {
@@ -278,7 +282,7 @@ impl<'a> Caller<'a> {
     }
 
     /// Lowers the functions of an instance, and lets handles of its resources be dropped.
-    fn lower_items(&mut self, instance: &ImportedInstance) -> Result<(), StubFault> {
+    fn lower_items(&mut self, instance: &ImportedInstance) -> Result<(), DraftFault> {
         let module = String::from_str(self.alloc, instance.name.as_str())?;
         self.modules.begin_imports(&mut self.writer.draft, module)?;
         for item in &instance.items {
@@ -292,7 +296,7 @@ impl<'a> Caller<'a> {
     }
 
     /// Lowers the functions that are of no instance.
-    fn lower_funcs(&mut self, funcs: &[ImportedFunc]) -> Result<(), StubFault> {
+    fn lower_funcs(&mut self, funcs: &[ImportedFunc]) -> Result<(), DraftFault> {
         if funcs.is_empty() {
             return Ok(());
         }
@@ -305,7 +309,7 @@ impl<'a> Caller<'a> {
     }
 
     /// Lets handles of resources be dropped that the other imports too.
-    fn drop_brought(&mut self) -> Result<(), StubFault> {
+    fn drop_brought(&mut self) -> Result<(), DraftFault> {
         for brought in self.writer.handles.take_brought() {
             if !brought.is_imported {
                 continue;
@@ -322,7 +326,7 @@ impl<'a> Caller<'a> {
     }
 
     /// Writes all that is imported.
-    fn write(&mut self, exports: &[NamedDesc<'_>]) -> Result<(), StubFault> {
+    fn write(&mut self, exports: &[NamedDesc<'_>]) -> Result<(), DraftFault> {
         let mut instances = self.import_instances(exports)?;
         let funcs = self.import_funcs(exports)?;
         for instance in &mut instances {
@@ -341,11 +345,11 @@ impl<'a> Caller<'a> {
 
 /// A component that imports what another exports, and of what that imports the instances that bring
 /// the resources in it.
-pub(crate) fn written(
+pub fn caller_written(
     alloc: Global,
     imports: &Asked<'_>,
     exports: &Asked<'_>,
-) -> Result<Component, StubFault> {
+) -> Result<Component, DraftFault> {
     let mut caller = Caller {
         alloc,
         types: exports.types,

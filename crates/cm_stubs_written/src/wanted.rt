@@ -1,13 +1,10 @@
 //! What a provider exports: what others import, under one name for all compatible versions.
 
 use crate::asked::{Asked, bytes_of, name_of};
-use crate::draft::Draft;
-use crate::fault::StubFault;
-use crate::handles::ResourceKey;
 use crate::resources::Resources;
-use crate::types::TypeKey;
-use cm_types::{ExternName, ExternNameForm, ResourceId};
-use cm_types_arena::{ItemDesc, Move, moved_resource};
+use cm_stubs_drafts::{Draft, DraftFault, ResourceKey, TypeKey};
+use cm_types::{ExternName, ExternNameForm};
+use cm_types_arena::{ItemDesc, Move};
 use cm_types_signatures::{Desc, Items, NamedDesc, NamedItem};
 use semver::Version;
 use std::alloc::{AllocError, Global};
@@ -147,7 +144,7 @@ impl WantedExport {
     }
 
     /// Adds an item, if there is none of its name.
-    fn add(&mut self, alloc: Global, name: ExternName, is: ItemIs) -> Result<(), StubFault> {
+    fn add(&mut self, alloc: Global, name: ExternName, is: ItemIs) -> Result<(), DraftFault> {
         if self.places.contains_key(name.as_str()) {
             return Ok(());
         }
@@ -173,7 +170,7 @@ impl Wanted {
 
     /// The place of the export under a name or one of a compatible version, which is added where
     /// there is none.
-    fn place(&mut self, name: ExternName, desc: &Desc<'_>, of: usize) -> Result<usize, StubFault> {
+    fn place(&mut self, name: ExternName, desc: &Desc<'_>, of: usize) -> Result<usize, DraftFault> {
         let Shared {
             name: shared,
             version,
@@ -201,7 +198,7 @@ impl Wanted {
         place: usize,
         name: &ExternName,
         key: ResourceKey,
-    ) -> Result<usize, StubFault> {
+    ) -> Result<usize, DraftFault> {
         let known = match self.exports.get(place) {
             Some(export) => export.resource(name.as_str()),
             None => None,
@@ -221,13 +218,13 @@ impl Wanted {
         of: usize,
         by: Option<Move>,
         item: &NamedItem<'_>,
-    ) -> Result<(), StubFault> {
+    ) -> Result<(), DraftFault> {
         let name = name_of(self.alloc, item.name)?;
         let is = match item.desc {
             ItemDesc::Func(placed) => ItemIs::Func(TypeKey::new(of, placed, by)),
             ItemDesc::EqualType(placed) => ItemIs::Value(TypeKey::new(of, placed, by)),
             ItemDesc::EqualResource(number) | ItemDesc::FreshResource(number) => {
-                let key = resource_key(of, number, by);
+                let key = ResourceKey::new(of, number, by);
                 ItemIs::Resource(self.resource(place, &name, key)?)
             }
         };
@@ -244,7 +241,7 @@ impl Wanted {
         place: usize,
         of: usize,
         items: Items<'_>,
-    ) -> Result<(), StubFault> {
+    ) -> Result<(), DraftFault> {
         for number in 0..items.len() {
             if let Some(item) = items.at(number) {
                 draft.spend(bytes_of(item.name))?;
@@ -261,7 +258,7 @@ impl Wanted {
         before: &Exported,
         of: usize,
         import: &NamedDesc<'_>,
-    ) -> Result<(), StubFault> {
+    ) -> Result<(), DraftFault> {
         draft.spend(bytes_of(import.name))?;
         let name = name_of(self.alloc, import.name)?;
         if before.has(self.alloc, &name)? {
@@ -281,7 +278,7 @@ impl Wanted {
         draft: &mut Draft,
         asked: &[Asked<'_>],
         exported: &[Vec<ExternName>],
-    ) -> Result<Wanted, StubFault> {
+    ) -> Result<Wanted, DraftFault> {
         let mut wanted = Wanted::new(alloc);
         let mut before = Exported::new(alloc);
         for (of, each) in asked.iter().enumerate() {
@@ -338,17 +335,5 @@ impl Exported {
             Some(latest) => !is_later(&version, latest),
             None => false,
         })
-    }
-}
-
-/// The resource of a number of an instance, as what is asked counts it.
-pub(crate) fn resource_key(of: usize, number: u64, by: Option<Move>) -> ResourceKey {
-    let id = ResourceId {
-        component: 0,
-        number,
-    };
-    ResourceKey {
-        of,
-        number: moved_resource(by, id).number,
     }
 }

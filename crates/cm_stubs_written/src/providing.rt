@@ -4,15 +4,12 @@ ghost use Rattle.std.specs.Prelude.{◌<◌, length};
 ghost use Rattle.cm_types_arena.specs.Places.{funcs_of};
 
 use crate::asked::Asked;
-use crate::core_module::CoreType;
-use crate::fault::StubFault;
-use crate::host_module::HostModules;
-use crate::types::{TypeKey, Writer};
 use crate::wanted::{ItemIs, Wanted, WantedExport, WantedIs, WantedItem};
 use cm_binary_model::{
     Canon, CanonOption, Component, ExportSort, InlineExport, Instance, InstanceExportSort,
 };
 use cm_layout::{Side, flatten_func};
+use cm_stubs_drafts::{CoreType, DraftFault, HostModules, TypeKey, Writer};
 use cm_types::ExternName;
 use cm_types_arena::Types;
 use std::alloc::Global;
@@ -55,7 +52,7 @@ fn has_contents(types: &Types, func: usize) -> bool
 impl<'a> Provider<'a> {
     /// Defines the resource of an item with its destructor, and the core functions that make, drop
     /// and read handles of it.
-    fn add_resource(&mut self, export: &str, item: &str, root: usize) -> Result<(), StubFault> {
+    fn add_resource(&mut self, export: &str, item: &str, root: usize) -> Result<(), DraftFault> {
         let alloc = self.alloc;
         let draft = &mut self.writer.draft;
         draft.spend(export.len())?;
@@ -79,7 +76,7 @@ impl<'a> Provider<'a> {
     }
 
     /// Defines the resources of an instance that no instance before has.
-    fn add_resources(&mut self, wanted: &Wanted, export: &WantedExport) -> Result<(), StubFault> {
+    fn add_resources(&mut self, wanted: &Wanted, export: &WantedExport) -> Result<(), DraftFault> {
         let WantedIs::Instance(items) = &export.is else {
             return Ok(());
         };
@@ -104,20 +101,13 @@ impl<'a> Provider<'a> {
     }
 
     /// The resources of what is asked are those that are defined.
-    fn settle_resources(&mut self, wanted: &Wanted) -> Result<(), StubFault> {
+    fn settle_resources(&mut self, wanted: &Wanted) -> Result<(), DraftFault> {
         for (key, number) in wanted.resources.numbers() {
             if let Some(index) = self.resources.get(&wanted.resources.root(*number)) {
                 self.writer.handles.define(*key, *index)?;
             }
         }
         Ok(())
-    }
-
-    /// Adds the core function that the module `host` exports under a name.
-    fn host_func(&mut self, host: u32, name: String, ty: CoreType) -> Result<u32, StubFault> {
-        self.writer.draft.spend(name.len())?;
-        self.modules.host.export(name.as_str(), ty)?;
-        self.writer.draft.core_func(host, name)
     }
 
     /// The options of a lift, with a post-return function under this name where its result has
@@ -127,31 +117,33 @@ impl<'a> Provider<'a> {
         host: u32,
         name: &str,
         post_return: Option<CoreType>,
-    ) -> Result<Vec<CanonOption>, StubFault> {
+    ) -> Result<Vec<CanonOption>, DraftFault> {
         let alloc = self.alloc;
         let mut options = self.modules.options()?;
         if let Some(ty) = post_return {
             self.writer.draft.spend(name.len())?;
             let name = format!(in alloc; "cabi_post_{name}")?;
-            options.push(CanonOption::PostReturn(self.host_func(host, name, ty)?))?;
+            let draft = &mut self.writer.draft;
+            let func = self.modules.host_func(draft, host, name, ty)?;
+            options.push(CanonOption::PostReturn(func))?;
         }
         Ok(options)
     }
 
     /// The arena of a list of what is asked, if there is such a list.
-    fn types(&self, of: usize) -> Result<&'a Types, StubFault> {
+    fn types(&self, of: usize) -> Result<&'a Types, DraftFault> {
         match self.asked.get(of) {
             Some(asked) => Ok(asked.types),
-            None => Err(StubFault::NoResource),
+            None => Err(DraftFault::NoResource),
         }
     }
 
     /// The index of the function of this type that is lifted from what the module `host` exports
     /// under this name, once all is lifted.
-    fn prepare_func(&mut self, host: u32, name: String, key: TypeKey) -> Result<u32, StubFault> {
+    fn prepare_func(&mut self, host: u32, name: String, key: TypeKey) -> Result<u32, DraftFault> {
         let types = self.types(key.of)?;
         if key.place >= types.func_count() {
-            return Err(StubFault::NoResource);
+            return Err(DraftFault::NoResource);
         }
         let ty = self.writer.func_index(types, key)?;
         let flat = flatten_func(self.alloc, types.func(key.place), Side::Lift)?;
@@ -162,8 +154,9 @@ impl<'a> Provider<'a> {
             None
         };
         let options = self.lift_options(host, name.as_str(), post_return)?;
-        let core_func = self.host_func(host, name, core)?;
-        let index = u32::try_from(self.lifts.len()).map_err(|_| StubFault::TooLong)?;
+        let draft = &mut self.writer.draft;
+        let core_func = self.modules.host_func(draft, host, name, core)?;
+        let index = u32::try_from(self.lifts.len()).map_err(|_| DraftFault::TooLong)?;
         self.lifts.push(Canon::Lift {
             core_func,
             options,
@@ -179,7 +172,7 @@ impl<'a> Provider<'a> {
         export: &str,
         name: &str,
         key: TypeKey,
-    ) -> Result<u32, StubFault> {
+    ) -> Result<u32, DraftFault> {
         let alloc = self.alloc;
         self.writer.draft.spend(export.len())?;
         let core = format!(in alloc; "{export}#{name}")?;
@@ -187,7 +180,7 @@ impl<'a> Provider<'a> {
     }
 
     /// The index of the type that an item of an instance is, or of its function's type.
-    fn item_type(&mut self, wanted: &Wanted, item: &WantedItem) -> Result<u32, StubFault> {
+    fn item_type(&mut self, wanted: &Wanted, item: &WantedItem) -> Result<u32, DraftFault> {
         match item.is {
             ItemIs::Func(key) => {
                 let types = self.types(key.of)?;
@@ -199,13 +192,13 @@ impl<'a> Provider<'a> {
             }
             ItemIs::Resource(number) => match self.resources.get(&wanted.resources.root(number)) {
                 Some(index) => Ok(*index),
-                None => Err(StubFault::NoResource),
+                None => Err(DraftFault::NoResource),
             },
         }
     }
 
     /// Writes the types of what is exported.
-    fn write_types(&mut self, wanted: &Wanted, export: &WantedExport) -> Result<(), StubFault> {
+    fn write_types(&mut self, wanted: &Wanted, export: &WantedExport) -> Result<(), DraftFault> {
         match &export.is {
             WantedIs::Func(key) => {
                 let types = self.types(key.of)?;
@@ -225,7 +218,7 @@ impl<'a> Provider<'a> {
         &mut self,
         wanted: &Wanted,
         items: &[WantedItem],
-    ) -> Result<Vec<InlineExport>, StubFault> {
+    ) -> Result<Vec<InlineExport>, DraftFault> {
         let mut exports = Vec::new(self.alloc);
         for item in items {
             if matches!(item.is, ItemIs::Func(_)) {
@@ -246,7 +239,7 @@ impl<'a> Provider<'a> {
         export: &str,
         items: &[WantedItem],
         exports: &mut Vec<InlineExport>,
-    ) -> Result<(), StubFault> {
+    ) -> Result<(), DraftFault> {
         for item in items {
             let ItemIs::Func(key) = item.is else {
                 continue;
@@ -265,7 +258,7 @@ impl<'a> Provider<'a> {
         wanted: &Wanted,
         host: u32,
         export: &WantedExport,
-    ) -> Result<Prepared, StubFault> {
+    ) -> Result<Prepared, DraftFault> {
         let name = export.name.as_str();
         match &export.is {
             WantedIs::Func(key) => {
@@ -281,7 +274,7 @@ impl<'a> Provider<'a> {
     }
 
     /// Defines the resources, instantiates the core modules, and writes the types.
-    fn open(&mut self, wanted: &Wanted) -> Result<u32, StubFault> {
+    fn open(&mut self, wanted: &Wanted) -> Result<u32, DraftFault> {
         self.modules.open(&mut self.writer.draft)?;
         for export in &wanted.exports {
             self.add_resources(wanted, export)?;
@@ -295,7 +288,7 @@ impl<'a> Provider<'a> {
     }
 
     /// Lifts all that is to be lifted.
-    fn lift(&mut self) -> Result<(), StubFault> {
+    fn lift(&mut self) -> Result<(), DraftFault> {
         for canon in mem::replace(&mut self.lifts, Vec::new(self.alloc)) {
             self.writer.draft.lift(canon)?;
         }
@@ -303,7 +296,7 @@ impl<'a> Provider<'a> {
     }
 
     /// Writes all that is exported.
-    fn write(&mut self, wanted: &Wanted) -> Result<(), StubFault> {
+    fn write(&mut self, wanted: &Wanted) -> Result<(), DraftFault> {
         let host = self.open(wanted)?;
         let mut prepared = Vec::new(self.alloc);
         for export in &wanted.exports {
@@ -329,11 +322,11 @@ impl<'a> Provider<'a> {
 }
 
 /// A component that exports what these import, each list after the exports of those before it.
-pub(crate) fn written(
+pub fn provider_written(
     alloc: Global,
     asked: &[Asked<'_>],
     exported: &[Vec<ExternName>],
-) -> Result<Component, StubFault> {
+) -> Result<Component, DraftFault> {
     let mut writer = Writer::new(alloc);
     let wanted = Wanted::of(alloc, &mut writer.draft, asked, exported)?;
     let mut provider = Provider {

@@ -1,17 +1,32 @@
 //! Resources by the indices of their types.
 
 use crate::draft::Draft;
-use crate::fault::StubFault;
-use cm_types::{Declaration, ExportDecl, ExportDesc, ExternName, TypeBound};
+use crate::fault::DraftFault;
+use cm_types::{Declaration, ExportDecl, ExportDesc, ExternName, ResourceId, TypeBound};
+use cm_types_arena::{Move, moved_resource};
 use std::alloc::Global;
 use std::collections::BTreeMap;
 use std::mem;
 
 /// A resource of what is asked: which of the lists it is of, from 0, and its number there.
 #[derive(Clone, Copy, PartialEq, Eq, PartialOrd, Ord)]
-pub(crate) struct ResourceKey {
+pub struct ResourceKey {
     pub of: usize,
     pub number: u64,
+}
+
+impl ResourceKey {
+    /// The resource of a number of an instance of a list, as the list counts it.
+    pub fn new(of: usize, number: u64, by: Option<Move>) -> ResourceKey {
+        let id = ResourceId {
+            component: 0,
+            number,
+        };
+        ResourceKey {
+            of,
+            number: moved_resource(by, id).number,
+        }
+    }
 }
 
 /// The export of an imported instance that a resource is.
@@ -23,14 +38,14 @@ struct Home {
 
 /// A resource that an instance brings, and its name there.
 #[derive(Drop)]
-pub(crate) struct BroughtResource {
+pub struct BroughtResource {
     pub key: ResourceKey,
     pub name: ExternName,
 }
 
 /// An instance that brings resources, and is imported where one of these is wanted.
 #[derive(Drop)]
-pub(crate) struct Brought {
+pub struct Brought {
     pub name: ExternName,
     pub resources: Vec<BroughtResource>,
     pub is_imported: bool,
@@ -38,7 +53,7 @@ pub(crate) struct Brought {
 
 impl Brought {
     /// What declares the resources, and nothing else.
-    fn declarations(&self, alloc: Global) -> Result<Vec<Declaration>, StubFault> {
+    fn declarations(&self, alloc: Global) -> Result<Vec<Declaration>, DraftFault> {
         let mut declarations = Vec::with_capacity(alloc, self.resources.len())?;
         for resource in &self.resources {
             declarations.push(Declaration::Export(ExportDecl {
@@ -53,7 +68,7 @@ impl Brought {
 /// The indices of resource types: of those of the component, and of those of the instance type that
 /// is declared; and the exports of imported instances that become the former where they are wanted.
 #[derive(Drop)]
-pub(crate) struct Handles {
+pub struct Handles {
     alloc: Global,
     component: BTreeMap<ResourceKey, u32>,
     declared: BTreeMap<ResourceKey, u32>,
@@ -65,7 +80,7 @@ pub(crate) struct Handles {
 
 impl Handles {
     /// No resources.
-    pub(crate) fn new(alloc: Global) -> Handles {
+    pub fn new(alloc: Global) -> Handles {
         Handles {
             alloc,
             component: BTreeMap::new(alloc),
@@ -77,24 +92,24 @@ impl Handles {
     }
 
     /// The resource is the component's type of this index.
-    pub(crate) fn define(&mut self, key: ResourceKey, index: u32) -> Result<(), StubFault> {
+    pub fn define(&mut self, key: ResourceKey, index: u32) -> Result<(), DraftFault> {
         self.component.insert(key, index)?;
         Ok(())
     }
 
     /// The resource is the type of this index in the instance type that is declared.
-    pub(crate) fn declare(&mut self, key: ResourceKey, index: u32) -> Result<(), StubFault> {
+    pub fn declare(&mut self, key: ResourceKey, index: u32) -> Result<(), DraftFault> {
         self.declared.insert(key, index)?;
         Ok(())
     }
 
     /// The resource is what an imported instance exports under a name, if it is none yet.
-    pub(crate) fn settle(
+    pub fn settle(
         &mut self,
         key: ResourceKey,
         instance: u32,
         name: ExternName,
-    ) -> Result<(), StubFault> {
+    ) -> Result<(), DraftFault> {
         if !self.is_settled(key) {
             self.homes.insert(key, Home { instance, name })?;
         }
@@ -103,23 +118,23 @@ impl Handles {
 
     /// Whether the resource is a type of the component or of the instance type that is declared, or
     /// what an imported instance exports.
-    pub(crate) fn is_settled(&self, key: ResourceKey) -> bool {
+    pub fn is_settled(&self, key: ResourceKey) -> bool {
         self.component.contains_key(&key)
             || self.homes.contains_key(&key)
             || self.declared.contains_key(&key)
     }
 
     /// No instance type is declared.
-    pub(crate) fn end_instance(&mut self) {
+    pub fn end_instance(&mut self) {
         self.declared = BTreeMap::new(self.alloc);
     }
 
     /// An instance that brings these resources may be imported under this name.
-    pub(crate) fn bring(
+    pub fn bring(
         &mut self,
         name: ExternName,
         resources: Vec<BroughtResource>,
-    ) -> Result<(), StubFault> {
+    ) -> Result<(), DraftFault> {
         let place = self.brought.len();
         for resource in &resources {
             self.bringing.insert(resource.key, place)?;
@@ -133,19 +148,19 @@ impl Handles {
     }
 
     /// The instances that bring resources: no other is imported from now on.
-    pub(crate) fn take_brought(&mut self) -> Vec<Brought> {
+    pub fn take_brought(&mut self) -> Vec<Brought> {
         self.bringing = BTreeMap::new(self.alloc);
         mem::replace(&mut self.brought, Vec::new(self.alloc))
     }
 
     /// Imports what brings a resource that nothing imported so far has. `NoResource` comes where
     /// nothing brings it.
-    fn import(&mut self, draft: &mut Draft, key: ResourceKey) -> Result<(), StubFault> {
+    fn import(&mut self, draft: &mut Draft, key: ResourceKey) -> Result<(), DraftFault> {
         let Some(place) = self.bringing.get(&key) else {
-            return Err(StubFault::NoResource);
+            return Err(DraftFault::NoResource);
         };
         let Some(brought) = self.brought.get_mut(*place) else {
-            return Err(StubFault::NoResource);
+            return Err(DraftFault::NoResource);
         };
         brought.is_imported = true;
         let ty = draft.instance_type(brought.declarations(self.alloc)?)?;
@@ -159,11 +174,7 @@ impl Handles {
 
     /// The index of a resource among the component's types. `NoResource` comes where nothing has
     /// it.
-    pub(crate) fn in_component(
-        &mut self,
-        draft: &mut Draft,
-        key: ResourceKey,
-    ) -> Result<u32, StubFault> {
+    pub fn in_component(&mut self, draft: &mut Draft, key: ResourceKey) -> Result<u32, DraftFault> {
         if let Some(index) = self.component.get(&key) {
             return Ok(*index);
         }
@@ -171,7 +182,7 @@ impl Handles {
             self.import(draft, key)?;
         }
         let Some(home) = self.homes.get(&key) else {
-            return Err(StubFault::NoResource);
+            return Err(DraftFault::NoResource);
         };
         let index = draft.type_of(home.instance, home.name.clone()?)?;
         self.component.insert(key, index)?;
@@ -179,7 +190,7 @@ impl Handles {
     }
 
     /// The index of a resource where types are declared.
-    pub(crate) fn index(&mut self, draft: &mut Draft, key: ResourceKey) -> Result<u32, StubFault> {
+    pub fn index(&mut self, draft: &mut Draft, key: ResourceKey) -> Result<u32, DraftFault> {
         if !draft.is_declaring() {
             return self.in_component(draft, key);
         }

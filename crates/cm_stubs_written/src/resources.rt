@@ -1,6 +1,6 @@
 //! Resources that are one, under whichever names others import them.
 
-use crate::handles::ResourceKey;
+use cm_stubs_drafts::ResourceKey;
 use std::alloc::{AllocError, Global};
 use std::collections::BTreeMap;
 

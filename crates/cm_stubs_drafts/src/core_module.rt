@@ -39,14 +39,14 @@ pub(crate) const REALLOC: &str = "cabi_realloc";
 
 /// The type of a core function.
 #[derive(Drop)]
-pub(crate) struct CoreType {
+pub struct CoreType {
     pub params: Vec<CoreKind>,
     pub results: Vec<CoreKind>,
 }
 
 impl CoreType {
     /// The type with so many parameters and results, which are all addresses or the like.
-    pub(crate) fn of_pointers(
+    pub fn of_pointers(
         alloc: Global,
         params: usize,
         results: usize,
@@ -58,7 +58,7 @@ impl CoreType {
     }
 
     /// The type of a function that was flattened.
-    pub(crate) fn of_flat(flat: FlatFunc) -> CoreType {
+    pub fn of_flat(flat: FlatFunc) -> CoreType {
         let FlatFunc {
             params,
             results,
@@ -69,7 +69,7 @@ impl CoreType {
 
     /// The type of the function that is called when a result was read: it takes what the lifted
     /// one answers.
-    pub(crate) fn of_post_return(&self, alloc: Global) -> Result<CoreType, AllocError> {
+    pub fn of_post_return(&self, alloc: Global) -> Result<CoreType, AllocError> {
         Ok(CoreType {
             params: self.results.clone()?,
             results: Vec::new(alloc),
@@ -104,15 +104,21 @@ pub(crate) struct CoreModule {
     exports: Vec<String>,
 }
 
+/// Writes a number of items or of bytes. It promises nothing, so that what calls it proves nothing
+/// of the bytes.
+fn write_number(out: &mut Vec<u8>, number: usize) -> Result<(), AllocError> {
+    write_count(out, number)
+}
+
 /// Writes a text behind its length.
 fn write_name(out: &mut Vec<u8>, name: &str) -> Result<(), AllocError> {
-    write_count(out, name.len())?;
+    write_number(out, name.len())?;
     out.extend_from_slice(name.as_bytes())
 }
 
 /// Writes the kinds of core values behind their number.
 fn write_kinds(out: &mut Vec<u8>, kinds: &[CoreKind]) -> Result<(), AllocError> {
-    write_count(out, kinds.len())?;
+    write_number(out, kinds.len())?;
     for kind in kinds {
         let code = match kind {
             CoreKind::I32 => 0x7fu8,
@@ -126,7 +132,7 @@ fn write_kinds(out: &mut Vec<u8>, kinds: &[CoreKind]) -> Result<(), AllocError> 
 /// Writes a section.
 fn write_section(out: &mut Vec<u8>, id: u8, contents: &[u8]) -> Result<(), AllocError> {
     out.push(id)?;
-    write_count(out, contents.len())?;
+    write_number(out, contents.len())?;
     out.extend_from_slice(contents)
 }
 
@@ -167,7 +173,7 @@ impl CoreModule {
     /// The contents of the section of types.
     fn types(&self) -> Result<Vec<u8>, AllocError> {
         let mut out = Vec::new(self.alloc);
-        write_count(&mut out, self.types.len())?;
+        write_number(&mut out, self.types.len())?;
         for ty in &self.types {
             out.push(FUNC)?;
             write_kinds(&mut out, &ty.params)?;
@@ -180,9 +186,9 @@ impl CoreModule {
     fn imports(&self) -> Result<Vec<u8>, AllocError> {
         let mut out = Vec::new(self.alloc);
         match self.memory {
-            MemoryIs::Own => write_count(&mut out, self.imports.len())?,
+            MemoryIs::Own => write_number(&mut out, self.imports.len())?,
             MemoryIs::Imported => {
-                write_count(&mut out, self.imports.len().saturating_add(1))?;
+                write_number(&mut out, self.imports.len().saturating_add(1))?;
                 write_name(&mut out, BASE)?;
                 write_name(&mut out, MEMORY)?;
                 out.extend_from_slice(&[MEMORY_SORT, 0, 0])?;
@@ -192,7 +198,7 @@ impl CoreModule {
             write_name(&mut out, import.module.as_str())?;
             write_name(&mut out, import.name.as_str())?;
             out.push(FUNC_SORT)?;
-            write_count(&mut out, index)?;
+            write_number(&mut out, index)?;
         }
         Ok(out)
     }
@@ -200,9 +206,9 @@ impl CoreModule {
     /// The contents of the section of functions: function n is of type n.
     fn funcs(&self) -> Result<Vec<u8>, AllocError> {
         let mut out = Vec::new(self.alloc);
-        write_count(&mut out, self.exports.len())?;
+        write_number(&mut out, self.exports.len())?;
         for index in self.imports.len()..self.types.len() {
-            write_count(&mut out, index)?;
+            write_number(&mut out, index)?;
         }
         Ok(out)
     }
@@ -211,9 +217,9 @@ impl CoreModule {
     fn exports(&self) -> Result<Vec<u8>, AllocError> {
         let mut out = Vec::new(self.alloc);
         match self.memory {
-            MemoryIs::Imported => write_count(&mut out, self.exports.len())?,
+            MemoryIs::Imported => write_number(&mut out, self.exports.len())?,
             MemoryIs::Own => {
-                write_count(&mut out, self.exports.len().saturating_add(1))?;
+                write_number(&mut out, self.exports.len().saturating_add(1))?;
                 write_name(&mut out, MEMORY)?;
                 out.extend_from_slice(&[MEMORY_SORT, 0])?;
             }
@@ -221,7 +227,7 @@ impl CoreModule {
         for (number, name) in self.exports.iter().enumerate() {
             write_name(&mut out, name.as_str())?;
             out.push(FUNC_SORT)?;
-            write_count(&mut out, self.imports.len().saturating_add(number))?;
+            write_number(&mut out, self.imports.len().saturating_add(number))?;
         }
         Ok(out)
     }
@@ -229,7 +235,7 @@ impl CoreModule {
     /// The contents of the section of code: each function stops.
     fn code(&self) -> Result<Vec<u8>, AllocError> {
         let mut out = Vec::new(self.alloc);
-        write_count(&mut out, self.exports.len())?;
+        write_number(&mut out, self.exports.len())?;
         for _export in &self.exports {
             out.extend_from_slice(&[3, 0, UNREACHABLE, END])?;
         }

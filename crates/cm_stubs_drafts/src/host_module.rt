@@ -2,7 +2,7 @@
 
 use crate::core_module::{BASE, CoreModule, CoreType, MEMORY, MemoryIs, REALLOC};
 use crate::draft::Draft;
-use crate::fault::StubFault;
+use crate::fault::DraftFault;
 use cm_binary_model::{
     CanonOption, Component, CoreInlineExport, CoreInstance, CoreInstantiationArg, CoreSort,
 };
@@ -17,7 +17,7 @@ const HOST_MODULE: u32 = 1;
 
 /// Core functions of canonical definitions that the module `host` imports from one module.
 #[derive(Drop)]
-pub(crate) struct CoreImports {
+struct CoreImports {
     module: String,
     funcs: Vec<CoreInlineExport>,
 }
@@ -25,16 +25,16 @@ pub(crate) struct CoreImports {
 /// The two core modules of a stub: `base` has the memory, the allocator and the destructors, `host`
 /// imports the memory and what canonical definitions make, and exports what is lifted.
 #[derive(Drop)]
-pub(crate) struct HostModules {
+pub struct HostModules {
     alloc: Global,
-    pub base: CoreModule,
-    pub host: CoreModule,
+    base: CoreModule,
+    host: CoreModule,
     imports: Vec<CoreImports>,
 }
 
 impl HostModules {
     /// Both modules, with no functions but the allocator.
-    pub(crate) fn new(alloc: Global) -> Result<HostModules, AllocError> {
+    pub fn new(alloc: Global) -> Result<HostModules, AllocError> {
         let mut base = CoreModule::new(alloc, MemoryIs::Own);
         base.export(REALLOC, CoreType::of_pointers(alloc, 4, 1)?)?;
         Ok(HostModules {
@@ -46,7 +46,7 @@ impl HostModules {
     }
 
     /// Instantiates the module `base`, and adds its memory and its allocator.
-    pub(crate) fn open(&self, draft: &mut Draft) -> Result<(), StubFault> {
+    pub fn open(&self, draft: &mut Draft) -> Result<(), DraftFault> {
         draft.core_instance(CoreInstance::Instantiate {
             module: BASE_MODULE,
             args: Vec::new(self.alloc),
@@ -57,30 +57,40 @@ impl HostModules {
     }
 
     /// Adds a function that the module `base` exports under this name: its core function.
-    pub(crate) fn base_func(
+    pub fn base_func(
         &mut self,
         draft: &mut Draft,
         name: String,
         ty: CoreType,
-    ) -> Result<u32, StubFault> {
+    ) -> Result<u32, DraftFault> {
         draft.spend(name.len())?;
         self.base.export(name.as_str(), ty)?;
         draft.core_func(BASE_INSTANCE, name)
     }
 
+    /// Adds a function that the module `host`, which has this core instance, exports under a name:
+    /// its core function.
+    pub fn host_func(
+        &mut self,
+        draft: &mut Draft,
+        host: u32,
+        name: String,
+        ty: CoreType,
+    ) -> Result<u32, DraftFault> {
+        draft.spend(name.len())?;
+        self.host.export(name.as_str(), ty)?;
+        draft.core_func(host, name)
+    }
+
     /// The options of all lifts and lowers.
-    pub(crate) fn options(&self) -> Result<Vec<CanonOption>, AllocError> {
+    pub fn options(&self) -> Result<Vec<CanonOption>, AllocError> {
         let memory = CanonOption::Memory(0);
         let realloc = CanonOption::Realloc(0);
         Ok(vec![in self.alloc; CanonOption::Utf8, memory, realloc]?)
     }
 
     /// Begins with the functions that are imported from a module of this name.
-    pub(crate) fn begin_imports(
-        &mut self,
-        draft: &mut Draft,
-        module: String,
-    ) -> Result<(), StubFault> {
+    pub fn begin_imports(&mut self, draft: &mut Draft, module: String) -> Result<(), DraftFault> {
         draft.spend(module.len())?;
         let funcs = Vec::new(self.alloc);
         self.imports.push(CoreImports { module, funcs })?;
@@ -88,13 +98,13 @@ impl HostModules {
     }
 
     /// Adds a core function that is imported from that module, under this name.
-    pub(crate) fn import(
+    pub fn import(
         &mut self,
         draft: &mut Draft,
         name: String,
         index: u32,
         ty: CoreType,
-    ) -> Result<(), StubFault> {
+    ) -> Result<(), DraftFault> {
         let Some(imports) = self.imports.last_mut() else {
             return Ok(());
         };
@@ -110,7 +120,7 @@ impl HostModules {
     }
 
     /// Instantiates the module `host` with what it imports: the number of its instance.
-    pub(crate) fn instantiate(&mut self, draft: &mut Draft) -> Result<u32, StubFault> {
+    pub fn instantiate(&mut self, draft: &mut Draft) -> Result<u32, DraftFault> {
         let mut args = Vec::new(self.alloc);
         args.push(CoreInstantiationArg {
             name: String::from_str(self.alloc, BASE)?,
@@ -133,7 +143,7 @@ impl HostModules {
     }
 
     /// The component of both modules and of what was written behind them.
-    pub(crate) fn component(&self, draft: Draft) -> Result<Component, StubFault> {
+    pub fn component(&self, draft: Draft) -> Result<Component, DraftFault> {
         let mut modules = Vec::new(self.alloc);
         modules.push(self.base.bytes()?)?;
         modules.push(self.host.bytes()?)?;
