@@ -4,10 +4,14 @@
 #![tactic(auto)]
 
 mod fault;
+mod files;
+mod files_fault;
 mod fitting;
 mod judge;
 pub mod laws;
 
 pub use cm_shims_plain::{Place, Places, PlainFault, ShimFault, ShimReason, Shimmed, Want, read};
 pub use fault::{FitFault, FitReason};
+pub use files::{check_files, read_files};
+pub use files_fault::FilesFault;
 pub use fitting::fits;
