@@ -22,11 +22,16 @@
 //! `pass WAY SOURCE MEMORY TABLE INSTANCE TYPE.. = SLOT..` by the numbers of their handles at a
 //! receiver whose table is empty, and its table then; `numbers WAY TYPE.. = SLOT..`, of types that
 //! are numbers alone, by the core values that pass at once, or the fault, and else by `walked`.
+//!
+//! `host WAY MEMORY END TYPE.. as TYPE.. = SLOT..`, whose types are one where WAY is `results`, is
+//! answered by what a host sees of the values, or the fault; and, by the types behind `as`, by what
+//! passes the values on in a memory whose bytes up to END are given out, or the fault.
 #![tactic(auto)]
 
 mod answers;
 mod call;
 mod giving;
+mod hosts;
 mod lifted;
 mod lowered;
 mod numbers;
@@ -41,7 +46,7 @@ use std::io;
 use std::process::ExitCode;
 
 /// The families of rows, a file each.
-const FAMILIES: [&str; 5] = ["calls", "lifts", "requests", "handles", "numbers"];
+const FAMILIES: [&str; 6] = ["calls", "lifts", "requests", "handles", "numbers", "hosts"];
 
 /// Nothing is kept between rows.
 #[derive(Drop)]
@@ -63,6 +68,7 @@ impl Driver for CallRows {
             "numbers" => pass_at_once(alloc, rest, line),
             "give" => giving::answer(alloc, rest, line),
             "answers" => answers::answer(alloc, rest, line),
+            "host" => hosts::answer(alloc, rest, line),
             "faults" => passing::write_faults(line),
             verb => call_or_scan(alloc, verb, rest, line),
         }

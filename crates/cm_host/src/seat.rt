@@ -1,0 +1,94 @@
+//! A component of a set that stands in for a host.
+
+ghost use Rattle.std.specs.Prelude.{◌≡◌, IfOk};
+ghost use Rattle.cm_host.specs.Seats.{instance_of};
+
+use crate::fault::SeatFault;
+use crate::found::{ResourceFuncs, Typed, exported, is_utf8, lowered, resource};
+use cm_host_values::HostTypes;
+use cm_machine::{Checked, Linked};
+use cm_validate_functions::Functions;
+use std::alloc::Global;
+
+/// A component of a linked set that stands in for a host, with the number of its instance. It
+/// borrows what `validate` found.
+///
+/// Names are those that users write: `interface#item` for an item of an imported or exported
+/// instance, as `a:b/c@1.0.0#[method]r.get`, and `function` for one that is imported or exported
+/// itself.
+#[derive(Drop)]
+pub struct Seat<'b, 'a> {
+    pub(crate) checked: &'b Checked<'a>,
+    pub(crate) functions: Functions<'b, 'a>,
+    pub(crate) instance: u32,
+}
+
+/// A function in terms of values: its core function, and the types of its parameters and results.
+#[derive(Drop)]
+pub(crate) struct HostFunc {
+    pub(crate) core_func: u32,
+    pub(crate) params: HostTypes,
+    pub(crate) results: HostTypes,
+}
+
+impl<'b, 'a> Seat<'b, 'a> {
+    /// The component of a linked set, by the number of its instance.
+    pub fn of(
+        alloc: Global,
+        linked: &'b Linked<'a>,
+        instance: u32,
+    ) -> Result<Seat<'b, 'a>, SeatFault>
+        ensures { IfOk result (λ s. instance_of s ≡ instance) }
+    {
+        let Some(checked) = linked.components().get(instance as usize) else {
+            return Err(SeatFault::NoComponent);
+        };
+        let functions = Functions::of(alloc, checked)?;
+        Ok(Seat {
+            checked,
+            functions,
+            instance,
+        })
+    }
+
+    /// The core functions of a resource of an instance that the component exports or imports.
+    pub fn resource(&self, name: &str) -> Option<ResourceFuncs> {
+        resource(self.checked, name)
+    }
+
+    /// A function of the component in terms of values.
+    fn host_func(&self, alloc: Global, typed: Typed<'a>) -> Result<HostFunc, SeatFault> {
+        if !is_utf8(typed.options) {
+            return Err(SeatFault::NotUtf8);
+        }
+        let types = self.checked.types();
+        if typed.ty.place >= types.func_count() {
+            return Err(SeatFault::NoFunction);
+        }
+        let func = types.func(typed.ty.place);
+        Ok(HostFunc {
+            core_func: typed.core_func,
+            params: HostTypes::of_params(alloc, func)?,
+            results: HostTypes::of_result(alloc, func)?,
+        })
+    }
+
+    /// The function that the component exports under a name.
+    pub(crate) fn exported(&self, alloc: Global, name: &str) -> Result<HostFunc, SeatFault> {
+        match exported(self.checked, name) {
+            Some(typed) => self.host_func(alloc, typed),
+            None => Err(SeatFault::NoFunction),
+        }
+    }
+
+    /// The function that the component imports and lowers, by its name.
+    pub(crate) fn imported(&self, alloc: Global, name: &str) -> Result<HostFunc, SeatFault> {
+        let Some(core_func) = self.functions.import(name) else {
+            return Err(SeatFault::NoFunction);
+        };
+        match lowered(self.checked, core_func) {
+            Some(typed) => self.host_func(alloc, typed),
+            None => Err(SeatFault::NoFunction),
+        }
+    }
+}

@@ -1,0 +1,4 @@
+pub mod ContentLaws
+pub mod LoweringLaws
+pub mod LiftingLaws
+pub mod RequestingLaws
