@@ -1,4 +1,4 @@
-//! The front door: what a host needs of the other doors, and `load`.
+//! The front door: what a host needs of the other doors, `load` and `load_real`.
 //!
 //! A host depends on this crate alone. What it needs most stands at the root; each module has what
 //! a host needs of one door, or of several on one subject.
@@ -6,6 +6,9 @@
 
 mod fault;
 mod loading;
+mod real;
+mod real_fault;
+mod real_shown;
 mod shown;
 
 pub use cm_binary::{Component, DecodeFault, decode, encode};
@@ -15,6 +18,8 @@ pub use cm_types::{CoreKind, CoreValue};
 pub use cm_validate::{Checked, ValidFault, validate};
 pub use fault::LoadFault;
 pub use loading::load;
+pub use real::load_real;
+pub use real_fault::RealFault;
 
 /// Faults in words, with names: which file, which import, and who exports the name.
 pub mod faults {
@@ -33,6 +38,15 @@ pub mod files {
     pub use cm_types::{
         CaseType, Declaration, DeclaredType, DefType, DefValType, ExportDecl, ExportDesc, FuncType,
         LabeledValType, OuterType, PrimValType, TypeBound, ValType,
+    };
+}
+
+/// Files of real tools, which may have shims: the plain components that they stand for, and what
+/// their shims say of types.
+pub mod shims {
+    pub use cm_shims::{
+        FilesFault, FitFault, FitReason, Place, Places, PlainFault, ShimFault, ShimReason, Shimmed,
+        Want, check_files, fits, read, read_files,
     };
 }
 
@@ -88,6 +102,14 @@ pub mod values {
 /// Components that stand in for a host: what others import, or what one exports.
 pub mod stub {
     pub use cm_stubs::{StubFault, caller, caller_for, provider, provider_for};
+}
+
+/// Hosts in terms of values: functions that a host serves, and functions that it calls.
+pub mod hosts {
+    pub use cm_host::{
+        Answer, CallFault, Caller, Played, ResourceFuncs, Seat, SeatFault, ServeFault, Served,
+        Service, Value, ValuesFault,
+    };
 }
 
 /// The machine that runs a linked set, and guests that play it.

@@ -1,7 +1,7 @@
 //! Faults of loading in words.
 
 use crate::fault::LoadFault;
-use cm_binary::decode;
+use cm_shims::read;
 use cm_tool_faults::{NamedFile, Shown};
 use cm_validate::{Signature, signature, validate};
 use std::alloc::{AllocError, Global};
@@ -32,9 +32,9 @@ impl LoadFault {
     }
 }
 
-/// The signatures of the components of files, with the names of these, up to the first file that
-/// has no valid component.
-fn signatures<'a>(
+/// The signatures of the components for which files stand, with the names of these, up to the first
+/// file that has no valid one. A file without shims stands for the component that it spells.
+pub(crate) fn signatures<'a>(
     alloc: Global,
     files: &[NamedFile<'a>],
 ) -> Result<Vec<(&'a str, Signature)>, AllocError> {
@@ -48,12 +48,12 @@ fn signatures<'a>(
     Ok(signatures)
 }
 
-/// The signature of the component of a file, if it has a valid one.
+/// The signature of the component for which a file stands, if it is valid.
 fn signature_of(alloc: Global, bytes: &[u8]) -> Result<Option<Signature>, AllocError> {
-    let Ok(component) = decode(alloc, bytes) else {
+    let Ok(shimmed) = read(alloc, bytes) else {
         return Ok(None);
     };
-    match validate(alloc, &component) {
+    match validate(alloc, &shimmed.component) {
         Ok(checked) => Ok(Some(signature(alloc, checked)?)),
         Err(_) => Ok(None),
     }

@@ -32,6 +32,7 @@ impl Driver for HostRows {
             "file" => self.files.name(alloc, word(rest, 0), word(rest, 1), line),
             "of" => functions::answer(alloc, &self.files, rest, line),
             "load" => loading::answer(alloc, &self.files, rest, line),
+            "real" => loading::answer_real(alloc, &self.files, rest, line),
             "text" => texts::answer_text(alloc, rest, line),
             "world" => texts::answer_world(alloc, rest, line),
             "fits" => texts::answer_fits(alloc, &self.files, rest, line),
