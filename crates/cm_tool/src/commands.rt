@@ -2,14 +2,10 @@
 
 use crate::playing::play;
 use cm_machine::Set;
-use cm_match::Linked;
 use cm_tool_commands::{
-    Asked, Fault, Outcome, load_files, load_script, report, run_check, run_conform, run_link,
-    run_show,
+    Asked, Fault, Files, Linked, Outcome, Request, SetSize, Usage, WordsFault, load_files,
+    load_script, report, run_check, run_conform, run_link, run_show,
 };
-use cm_tool_files::Files;
-use cm_tool_lines::SetSize;
-use cm_tool_words::{Request, Usage, WordsFault};
 use std::alloc::Global;
 use std::io::Write;
 
@@ -85,7 +81,7 @@ fn run_play<'a, F: Files, O: Write, E: Write>(
 }
 
 /// Plays the script of a file on components that are linked.
-fn play_linked<'a, F: Files, O: Write, E: Write>(
+pub fn play_linked<'a, F: Files, O: Write, E: Write>(
     alloc: Global,
     name: &'a str,
     linked: &Linked<'_>,

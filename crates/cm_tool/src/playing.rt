@@ -1,9 +1,7 @@
 //! Playing a script on a set.
 
 use cm_machine::{Event, Guest, Misuse, Player, Set};
-use cm_tool_commands::{Fault, Outcome, report};
-use cm_tool_lines::{Drive, write_event};
-use cm_tool_script::{Script, ScriptGuest};
+use cm_tool_commands::{Drive, Fault, Outcome, Script, ScriptGuest, report, write_event};
 use std::alloc::Global;
 use std::io;
 use std::io::Write;

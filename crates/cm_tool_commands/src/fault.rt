@@ -1,6 +1,7 @@
 //! Why a command ends early, and the line that says so.
 
 ghost use Rattle.std.specs.Prelude.{◌≡◌};
+ghost use Rattle.cm_tool_commands.specs.Statuses.{fault_status};
 ghost use Rattle.cm_tool_commands.specs.declared.fault.Fault.TheVariants as fault;
 
 use cm_machine_model::Misuse;
@@ -65,8 +66,11 @@ pub enum Fault<'a> {
 }
 
 impl Fault<'_> {
-    /// The exit status of a command that ends by this fault.
-    pub fn status(&self) -> u8 {
+    /// The exit status of a command that ends by this fault: 2 where the words are no command, 4
+    /// where a file cannot be read or standard output not be written, else 1.
+    pub fn status(&self) -> u8
+        ensures { result ≡ fault_status self.now }
+    {
         match self {
             Fault::Usage(_) => 2,
             Fault::Output => 4,

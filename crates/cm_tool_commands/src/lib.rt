@@ -10,6 +10,15 @@ mod fault;
 mod loading;
 mod outcome;
 
+pub use cm_match::{LinkFault, Linked, MAX_COMPONENTS, link};
+pub use cm_tool_files::{
+    BadFile, Checked, FileFault, FileReason, Files, MAX_READ, Unfit, UnfitReason, checked_of,
+    component_of, conform_component, read_file, text_of, world_of,
+};
+pub use cm_tool_lines::{Drive, SetSize, write_event, write_plan};
+pub use cm_tool_script::{Script, ScriptFault, ScriptGuest, script_bytes};
+pub use cm_tool_words::{Request, Usage, WordsFault};
+pub use cm_validate_signature::{ValidFault, signature};
 pub use commands::{run_check, run_conform, run_link, run_show};
 pub use conforming::Asked;
 pub use fault::{Fault, report};

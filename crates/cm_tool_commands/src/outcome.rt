@@ -1,5 +1,8 @@
 //! How a command ends that no fault ends.
 
+ghost use Rattle.std.specs.Prelude.{◌≡◌};
+ghost use Rattle.cm_tool_commands.specs.Statuses.{outcome_status};
+
 /// The end of a command, or of one drive, the better one first.
 #[derive(Clone, Copy, PartialEq, Eq, PartialOrd, Ord)]
 pub enum Outcome {
@@ -13,7 +16,9 @@ pub enum Outcome {
 
 impl Outcome {
     /// The exit status.
-    pub fn status(self) -> u8 {
+    pub fn status(self) -> u8
+        ensures { result ≡ outcome_status self }
+    {
         match self {
             Outcome::Done => 0,
             Outcome::Refused => 1,

@@ -1,7 +1,6 @@
 //! `component_tool`: checks, links and plays WebAssembly components.
 #![tactic(auto)]
 
-mod disk;
 mod start;
 
 use start::start;

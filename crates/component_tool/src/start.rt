@@ -1,10 +1,9 @@
 //! The program on the machine that it runs on.
 
-use crate::disk::Disk;
-use cm_tool::{Fault, Usage, report, tool};
+use cm_tool::{Disk, Fault, Usage, report, tool, words_of};
+use std::io;
 use std::io::{BufWriter, Input, Write};
 use std::rt::{Env, Files};
-use std::{env, io};
 
 /// Runs the command of the program's words, which come after its name, on the files of the disk,
 /// and answers its exit status.
@@ -28,16 +27,8 @@ fn run<R: Env + Files + Input + AllocGlobal, O: Write + Drop, E: Write>(
     out: O,
     err: &mut E,
 ) -> io::Result<u8> {
-    let words: Vec<String> = env::args(rt)?.collect(rt.alloc())?;
-    run_words(rt, after_name(words.as_slice()), out, err)
-}
-
-/// The words after the program's name.
-fn after_name(words: &[String]) -> &[String] {
-    match words.split_first() {
-        Some((_name, after)) => after,
-        None => words,
-    }
+    let words = words_of(rt)?;
+    run_words(rt, words.as_slice(), out, err)
 }
 
 /// Runs the command of these words.

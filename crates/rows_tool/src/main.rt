@@ -3,12 +3,11 @@
 
 mod commands;
 mod event_lines;
-mod memory_files;
 mod plays;
 mod scripts;
 
 use cm_rows::{Driver, Line, answer_families, word, words_from};
-use memory_files::MemoryFiles;
+use cm_rows_files::MemoryFiles;
 use plays::Plays;
 use std::alloc::Global;
 use std::io;

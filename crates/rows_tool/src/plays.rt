@@ -1,9 +1,8 @@
 //! Rows on scripts that are played, and on the set that the last one left.
 
-use crate::commands::{Ran, write_ran};
-use crate::memory_files::MemoryFiles;
 use cm_machine::{Place, Set};
 use cm_rows::{Line, word, words_from, write_units};
+use cm_rows_files::{MemoryFiles, Ran, write_ran};
 use cm_tool::{Fault, LIMIT, Outcome, load_files, load_script, play, report};
 use std::alloc::Global;
 

@@ -1,6 +1,6 @@
 //! The files of the machine that the program runs on, and its standard input.
 
-use cm_tool_files::{FileFault, Files, MAX_READ};
+use cm_tool_commands::{FileFault, Files, MAX_READ};
 use std::alloc::Global;
 use std::io::{Input, Read};
 use std::{fs, io, rt};

@@ -1,0 +1,1 @@
+pub use Rattle.cm_tool_commands.specs as cm_tool_commands
