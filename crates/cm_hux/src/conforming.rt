@@ -1,0 +1,76 @@
+//! Whether the component of a file fits a world of the text of another.
+
+use crate::fault::Fault;
+use crate::loading::{Loaded, kept, load_file, of_file};
+use cm_tool::{
+    Asked, Fault as ToolFault, Files, Unfit, UnfitReason, conform_component, read_file, signature,
+    text_of, world_of,
+};
+use cm_tool_help_texts::{wit_help, world_help};
+use cm_tool_help_types::conform_help;
+use cm_wit_conforms::ConformFault;
+use std::alloc::Global;
+
+/// Refuses a component that does not fit the world.
+pub(crate) fn conform<'a, F: Files>(
+    alloc: Global,
+    asked: Asked<'a>,
+    files: &mut F,
+) -> Result<(), Fault<'a>> {
+    let loaded = load_file(alloc, files, asked.file)?;
+    let checked = loaded.check(alloc)?;
+    let bytes = match read_file(alloc, files, asked.wit) {
+        Ok(bytes) => bytes,
+        Err(bad) => return Err(of_file(bad, String::new(alloc))),
+    };
+    let text = match text_of(asked.wit, bytes.as_slice()) {
+        Ok(text) => text,
+        Err(bad) => return Err(of_file(bad, String::new(alloc))),
+    };
+    match conform_component(alloc, text, asked.world, checked) {
+        Ok(()) => Ok(()),
+        Err(reason) => Err(unfit(alloc, text, asked, &loaded, reason)),
+    }
+}
+
+/// The fault of a component that does not fit, with what the text, its world and the component
+/// have.
+fn unfit<'a>(
+    alloc: Global,
+    text: &str,
+    asked: Asked<'a>,
+    loaded: &Loaded<'_>,
+    reason: UnfitReason,
+) -> Fault<'a> {
+    let tail = match reason {
+        UnfitReason::Wit(fault) => kept(alloc, wit_help(alloc, text, fault)),
+        UnfitReason::World(fault) => kept(alloc, world_help(alloc, text, fault)),
+        UnfitReason::Signature(fault) => signature_tail(alloc, text, asked, loaded, fault),
+        UnfitReason::Memory => String::new(alloc),
+    };
+    let unfit = Unfit {
+        wit: asked.wit,
+        world: asked.world,
+        file: asked.file,
+        reason,
+    };
+    Fault::Tool(ToolFault::Unfit { unfit, tail })
+}
+
+/// What the component and the world have where they differ; nothing where there is no memory for
+/// the words.
+fn signature_tail(
+    alloc: Global,
+    text: &str,
+    asked: Asked<'_>,
+    loaded: &Loaded<'_>,
+    fault: ConformFault,
+) -> String {
+    let (Ok(world), Ok(checked)) = (world_of(alloc, text, asked.world), loaded.check(alloc)) else {
+        return String::new(alloc);
+    };
+    match signature(alloc, checked) {
+        Ok(have) => kept(alloc, conform_help(alloc, &have, &world, fault)),
+        Err(_) => String::new(alloc),
+    }
+}

@@ -1,0 +1,197 @@
+//! Reading the files of a command.
+
+ghost use Rattle.std.specs.Prelude.{◌≡◌, IfOk, Ok};
+ghost use Rattle.cm_validate_model.specs.Valid.{IsValid};
+ghost use Rattle.cm_validate_functions.specs.cm_validate_spaces.Checked.{sections_in, spaces_in};
+ghost use Rattle.cm_shims_plain.specs.Reading.{IsReadAs, outcome};
+ghost use Rattle.cm_shims.specs.Fitting.{AllHold};
+
+use crate::fault::Fault;
+use cm_binary_forms::DecodeFault;
+use cm_shims::{Place, ShimFault, Shimmed, fits, read};
+use cm_tool::{
+    BadFile, Checked, Fault as ToolFault, FileReason, Files, LinkFault, Linked, MAX_COMPONENTS,
+    ValidFault, checked_of, component_of, link, read_file, signature,
+};
+use cm_tool_help_texts::{bytes_help, valid_help};
+use cm_tool_help_types::link_help;
+use std::alloc::{AllocError, Global};
+
+/// A file that is read: its name, which is the word of the command line, its bytes, and what it
+/// stands for.
+#[derive(Drop)]
+pub struct Loaded<'a> {
+    pub name: &'a str,
+    pub bytes: Vec<u8>,
+    pub shimmed: Shimmed,
+}
+
+/// A tail, or none where there is no memory for it.
+pub(crate) fn kept<E: Drop>(alloc: Global, tail: Result<String, E>) -> String {
+    match tail {
+        Ok(tail) => tail,
+        Err(_) => String::new(alloc),
+    }
+}
+
+/// The fault of a file, with a tail.
+pub(crate) fn of_file<'a>(bad: BadFile<'a>, tail: String) -> Fault<'a> {
+    Fault::Tool(ToolFault::File { bad, tail })
+}
+
+/// The fault of bytes that are no component file: what stands there.
+fn not_decoded<'a>(alloc: Global, name: &'a str, bytes: &[u8], fault: DecodeFault) -> Fault<'a> {
+    let bad = BadFile {
+        name,
+        reason: FileReason::NoComponent {
+            fault,
+            found: bytes.get(fault.at).copied(),
+        },
+    };
+    of_file(bad, kept(alloc, bytes_help(alloc, bytes, fault)))
+}
+
+/// What the file of this name stands for, which may have shims: what `cm_shims::read` answers for
+/// its bytes.
+pub fn load_file<'a, F: Files>(
+    alloc: Global,
+    files: &mut F,
+    name: &'a str,
+) -> Result<Loaded<'a>, Fault<'a>>
+    ensures name { IfOk result (λ l. l.name ≡ name.entry) }
+    ensures read { IfOk result (λ l. IsReadAs l.bytes.items (outcome (Ok l.shimmed))) }
+{
+    let bytes = match read_file(alloc, files, name) {
+        Ok(bytes) => bytes,
+        Err(bad) => return Err(of_file(bad, String::new(alloc))),
+    };
+    match read(alloc, bytes.as_slice()) {
+        Ok(shimmed) => Ok(Loaded {
+            name,
+            bytes,
+            shimmed,
+        }),
+        Err(ShimFault::Decode(fault)) => Err(not_decoded(alloc, name, bytes.as_slice(), fault)),
+        Err(ShimFault::Plain(fault)) => Err(Fault::Plain { name, fault }),
+        Err(ShimFault::Limit(fault)) => Err(Fault::Limit { name, fault }),
+    }
+}
+
+impl<'a> Loaded<'a> {
+    /// The file as a valid component, of which all holds that its shims want.
+    pub fn check<'b>(&'b self, alloc: Global) -> Result<Checked<'b>, Fault<'a>>
+        ensures held { IfOk result (λ c. sections_in c ≡ self.now.shimmed.component) }
+        ensures valid { IfOk result (λ c. IsValid self.now.shimmed.component) }
+        ensures fits { IfOk result (λ c. AllHold (spaces_in c) self.now.shimmed.wants.items) }
+    {
+        let checked = match checked_of(alloc, self.name, &self.shimmed.component) {
+            Ok(checked) => checked,
+            Err(bad) => return Err(self.not_valid(alloc, bad)),
+        };
+        match fits(alloc, &checked, self.shimmed.wants.as_slice()) {
+            Ok(()) => Ok(checked),
+            Err(fault) => Err(Fault::Unmet {
+                name: self.name,
+                fault,
+            }),
+        }
+    }
+
+    /// The fault of a component that is not valid, at its place in the file.
+    fn not_valid(&self, alloc: Global, bad: BadFile<'a>) -> Fault<'a> {
+        let FileReason::NotValid(fault) = bad.reason else {
+            return of_file(bad, String::new(alloc));
+        };
+        let tail = kept(alloc, self.help(alloc, fault));
+        let reason = FileReason::NotValid(self.in_file(fault));
+        of_file(BadFile { reason, ..bad }, tail)
+    }
+
+    /// What the items of a file have at a fault, in words. A file with shims numbers its types in
+    /// another way than the component that it stands for, so that nothing is said of it.
+    fn help(&self, alloc: Global, fault: ValidFault) -> Result<String, AllocError> {
+        match component_of(alloc, self.name, self.bytes.as_slice()) {
+            Ok(component) => valid_help(alloc, &component, fault),
+            Err(_) => Ok(String::new(alloc)),
+        }
+    }
+
+    /// A fault at the section and item of the file from which the component's come.
+    fn in_file(&self, fault: ValidFault) -> ValidFault {
+        match self.shimmed.places.place(fault.section, fault.item) {
+            Some(Place { section, item }) => ValidFault {
+                section,
+                item,
+                ..fault
+            },
+            None => fault,
+        }
+    }
+}
+
+/// What some files stand for, in order: those before the first that cannot be read.
+#[derive(Drop)]
+pub(crate) struct LoadedFiles<'a> {
+    loaded: Vec<Loaded<'a>>,
+    /// How many files there are.
+    count: usize,
+}
+
+/// These files, which are read in order, up to the first that cannot be, with its fault, where
+/// there is one. Where there are more than a set may have, one more than that is read, and the
+/// others are not.
+pub(crate) fn load_files<'a, F: Files>(
+    alloc: Global,
+    files: &mut F,
+    names: &[&'a str],
+) -> Result<(LoadedFiles<'a>, Option<Fault<'a>>), AllocError> {
+    let count = names.len();
+    let mut loaded = Vec::with_capacity(alloc, count.min(MAX_COMPONENTS + 1))?;
+    for name in names.iter().take(MAX_COMPONENTS + 1) {
+        match load_file(alloc, files, name) {
+            Ok(file) => loaded.push(file)?,
+            Err(unread) => return Ok((LoadedFiles { loaded, count }, Some(unread))),
+        }
+    }
+    Ok((LoadedFiles { loaded, count }, None))
+}
+
+impl<'a> LoadedFiles<'a> {
+    /// The linked set of the components, which borrows them. They are checked in order, and then
+    /// linked; the fault is the first in the order of the files, of which `unread` is that of the
+    /// last, or else that of the links.
+    pub(crate) fn link<'b>(
+        &'b self,
+        alloc: Global,
+        unread: Option<Fault<'a>>,
+    ) -> Result<Linked<'b>, Fault<'a>> {
+        let mut components = Vec::with_capacity(alloc, self.loaded.len())?;
+        for file in &self.loaded {
+            components.push(file.check(alloc)?)?;
+        }
+        if let Some(fault) = unread {
+            return Err(fault);
+        }
+        match link(alloc, components) {
+            Ok(linked) => Ok(linked),
+            Err(fault) => Err(Fault::Tool(ToolFault::Link {
+                fault,
+                count: self.count,
+                tail: kept(alloc, self.tail_of(alloc, fault)),
+            })),
+        }
+    }
+
+    /// What the components have where they do not link, in words.
+    fn tail_of(&self, alloc: Global, fault: LinkFault) -> Result<String, Fault<'a>> {
+        let mut files = Vec::with_capacity(alloc, self.loaded.len())?;
+        for file in &self.loaded {
+            let component = file.check(alloc)?;
+            files.push((file.name, signature(alloc, component)?))?;
+        }
+        match link_help(alloc, &files, fault) {
+            Ok(tail) => Ok(tail),
+            Err(_) => Ok(String::new(alloc)),
+        }
+    }
+}

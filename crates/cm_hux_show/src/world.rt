@@ -1,0 +1,109 @@
+//! The world of a signature.
+
+ghost use Rattle.std.specs.Prelude.{◌≤◌, IfOk, length};
+ghost use Rattle.std.specs.String.{string_bytes};
+ghost use Rattle.cm_tool_show.specs.declared.page.TheConstants.{MAX_SHOWN};
+
+use crate::keys::Used;
+use crate::scope::Scope;
+use crate::writer::Writer;
+use cm_tool_show::{Counting, ShowFault};
+use cm_types::ExternNameForm;
+use cm_types_signatures::{Desc, Externs, NamedDesc, Signature};
+use std::alloc::Global;
+
+/// The text of a signature as WIT writes it (WIT.md, "Worlds"): each import and then each export,
+/// in order, as it stands in a world. The items of an instance stand in it: each type and resource
+/// once, under the first name that the instance gives it, and in other instances brought by `use`.
+/// Methods, static functions and constructors stand with their resources.
+///
+/// A type with no name of its own has that of one that is equal to it in the same instance: files
+/// define a type anew where they export it. A record, a variant, an enum or flags without a name, a
+/// resource too, and another type of more than 16 nodes, is declared where it is first used under a
+/// name that no file can have: `#` and a number, from 0 on. Other types without a name are written
+/// where they are used.
+///
+/// `TooLong` comes where the text has more than `MAX_SHOWN` bytes, and `Memory` where there is no
+/// memory. Each use of a type costs its name, or at most 16 nodes.
+pub fn show_world(alloc: Global, signature: &Signature) -> Result<String, ShowFault>
+    ensures short { IfOk result (λ text. length (string_bytes text) ≤ MAX_SHOWN) }
+{
+    let mut writer = Writer::new(alloc, signature.types())?;
+    let mut world = Scope::new(alloc, None, "");
+    writer.note_labels(&mut world, signature.imports())?;
+    writer.note_labels(&mut world, signature.exports())?;
+    writer.write_externs(&mut world, "import ", signature.imports())?;
+    writer.write_externs(&mut world, "export ", signature.exports())?;
+    writer.page.finish()
+}
+
+impl<'a> Writer<'a> {
+    /// Notes the labels that imports or exports take in the world.
+    fn note_labels(
+        &mut self,
+        world: &mut Scope<'a>,
+        externs: &'a Externs,
+    ) -> Result<(), ShowFault> {
+        for place in 0..externs.len() {
+            if let Some(
+                NamedDesc {
+                    name: ExternNameForm::Label(label),
+                    ..
+                },
+            ) = externs.at(place)
+            {
+                world.taken.insert(label)?;
+            }
+        }
+        Ok(())
+    }
+
+    /// Adds the lines of imports, or of exports.
+    fn write_externs(
+        &mut self,
+        world: &mut Scope<'a>,
+        word: &str,
+        externs: &'a Externs,
+    ) -> Result<(), ShowFault> {
+        for place in 0..externs.len() {
+            if let Some(each) = externs.at(place) {
+                self.write_extern(world, word, each)?;
+            }
+        }
+        Ok(())
+    }
+
+    fn write_extern(
+        &mut self,
+        world: &mut Scope<'a>,
+        word: &str,
+        each: NamedDesc<'a>,
+    ) -> Result<(), ShowFault> {
+        match each.desc {
+            Desc::Func(placed) => {
+                let used = Used {
+                    place: placed.place,
+                    by: Counting::new(placed.by, None),
+                };
+                self.prepare_func(world, used)?;
+                self.begin_extern(word, each.name)?;
+                self.write_func(world, used, 0)?;
+                self.page.put(";\n")
+            }
+            Desc::Instance(items) => {
+                let mut scope = Scope::new(self.alloc, Some(each.name), "  ");
+                self.note_items(&mut scope, items)?;
+                self.begin_extern(word, each.name)?;
+                self.page.put("interface {\n")?;
+                self.write_items(&mut scope, items)?;
+                self.page.put("}\n")
+            }
+        }
+    }
+
+    fn begin_extern(&mut self, word: &str, name: ExternNameForm<'a>) -> Result<(), ShowFault> {
+        self.page.put(word)?;
+        self.put_form(name)?;
+        self.page.put(": ")
+    }
+}

@@ -1,0 +1,8 @@
+//! The words of the command line of `hux`, read as a request.
+#![tactic(auto)]
+
+mod commands;
+mod request;
+
+pub use commands::VERSION;
+pub use request::{Answer, Request, WordsFault};
