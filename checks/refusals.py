@@ -60,6 +60,16 @@ def lacks_in_play(got, wanted):
     return is_told and lines == all_lines[:len(lines)] and ours[1] in "134"
 
 
+def lacks_in_check(got, wanted):
+    """Whether `hux check` says of a file, in its line, that it found no memory for it."""
+    ours, whole = PLAYED.fullmatch(got), PLAYED.fullmatch(wanted)
+    if not ours or not whole or ours[3] != whole[3]:
+        return False
+    lines, all_lines = ours[2].split("\\n"), whole[2].split("\\n")
+    return len(lines) == len(all_lines) and ours[1] in "14" and all(
+        line == other or "Memory" in line for line, other in zip(lines, all_lines))
+
+
 def lacks_in_move(got, wanted):
     """Whether a move, or the last one of a run, ends in trap 20 where its event may want memory."""
     if not TRAPPED.fullmatch(got):
@@ -82,7 +92,10 @@ def lacks_in_text(got, wanted):
 
 
 # What shows the refusal, so that the rows behind it are not judged.
-LAST = (lacks_in_move, lacks_in_list, lacks_in_play, lacks_in_drive, lacks_in_cuts, lacks_in_text)
+LAST = (
+    lacks_in_move, lacks_in_list, lacks_in_play, lacks_in_check, lacks_in_drive, lacks_in_cuts,
+    lacks_in_text,
+)
 
 
 def are_right(differing, rows):

@@ -31,7 +31,9 @@ DOORS = (
     "cm_abi",
     "cm_machine",
     "cm_stubs",
+    "cm_host",
     "cm_tool",
+    "cm_hux",
 )
 # rooms that stand behind several doors, each with the first of these
 SHARED = {"cm_names": "cm_types"}

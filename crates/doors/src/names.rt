@@ -61,11 +61,16 @@ pub mod tool {
     pub use cm_tool::{FileFault, Files, ScriptFault, script_bytes, tool};
 }
 
+pub mod hux {
+    pub use cm_hux::{CoreRow, Ending, core_row, core_text, run_hux, show_world};
+}
+
 pub mod front {
     pub use huxarte::components::{
         Desc, Externs, ItemDesc, Items, NamedDesc, NamedItem, Placed, Signature,
     };
     pub use huxarte::faults::{NamedFile, Shown};
     pub use huxarte::functions::{CoreFuncType, Described, Functions, Lift};
-    pub use huxarte::{LoadFault, load};
+    pub use huxarte::shims::{FilesFault, check_files, read_files};
+    pub use huxarte::{LoadFault, RealFault, load, load_real};
 }
