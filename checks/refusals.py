@@ -91,10 +91,15 @@ def lacks_in_text(got, wanted):
     return bool(SIZED.fullmatch(got) and SIZED.fullmatch(wanted))
 
 
+def lacks_in_words(got, wanted):
+    """Whether the words of a fault lack what would follow a colon, which found no memory."""
+    return ": " in got and wanted.startswith(f"{got}: ")
+
+
 # What shows the refusal, so that the rows behind it are not judged.
 LAST = (
     lacks_in_move, lacks_in_list, lacks_in_play, lacks_in_check, lacks_in_drive, lacks_in_cuts,
-    lacks_in_text,
+    lacks_in_text, lacks_in_words,
 )
 
 
