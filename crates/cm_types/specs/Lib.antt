@@ -17,3 +17,4 @@ pub mod ExternNames
 pub mod ExternNameForms
 pub mod ValueTrees
 pub mod TypedValues
+pub mod SharedTexts

@@ -15,11 +15,11 @@ ghost use Rattle.cm_types.specs.ExternNames.{without_front};
 ghost use Rattle.cm_types.specs.ExternNames.{HasLabels, version_in, version_text};
 ghost use Rattle.cm_types.specs.ExternNameForms.{form_tree, pair_view};
 
-use crate::names::{NameFault, label_fault, shared};
+use crate::names::{NameFault, label_fault};
+use crate::shared_text::SharedText;
 use crate::version::reads_as_version;
 use std::alloc::{AllocError, Global};
 use std::marker::Model;
-use std::rc::Rc;
 
 /// What an extern name says, part by part.
 #[derive(Clone, Copy)]
@@ -56,19 +56,19 @@ pub enum ExternNameForm<'a> {
 /// of Explainer.md, "Import and Export Definitions".
 #[derive(Drop)]
 pub struct ExternName {
-    text: Rc<String>,
+    text: SharedText,
 }
 
 impl Model for ExternName {
     ghost use Rattle.std.specs.Prelude.{◌≡◌, ℕ, List, true};
-    ghost use Rattle.std.specs.String.{string_bytes};
     ghost use Rattle.cm_types.specs.ExternNames.{is_extern_name};
+    ghost use Rattle.cm_types.specs.SharedTexts.{text_bytes};
 
     ghost Value = { List ℕ };
 
-    ghost view = { λ name. string_bytes name.text.value };
+    ghost view = { λ name. text_bytes name.text };
 
-    ghost invariant = { λ name. is_extern_name (string_bytes name.text.value) ≡ true };
+    ghost invariant = { λ name. is_extern_name (text_bytes name.text) ≡ true };
 }
 
 impl ExternName {
@@ -98,7 +98,7 @@ impl ExternName {
         match extern_name_fault(alloc, text) {
             Err(AllocError) => Err(NameFault::Memory),
             Ok(Some(fault)) => Err(fault),
-            Ok(None) => match shared(alloc, text) {
+            Ok(None) => match SharedText::new(alloc, text) {
                 Ok(text) => Ok(ExternName { text }),
                 Err(AllocError) => Err(NameFault::Memory),
             },
@@ -119,7 +119,7 @@ impl ExternName {
         ensures utf8 { is_utf8 result.now ≡ true }
         ensures name { is_extern_name result.now ≡ true }
     {
-        self.text.as_bytes()
+        self.text.as_str().as_bytes()
     }
 
     /// The form of the name, with its parts: what is spelled as the name, and whose parts are
@@ -142,7 +142,7 @@ impl Clone for ExternName {
     /// This name again; its text is shared. `AllocError` comes where it is shared too often to be
     /// counted.
     fn clone(&self) -> Result<ExternName, AllocError> {
-        let text = self.text.clone()?;
+        let text = self.text.share()?;
         Ok(ExternName { text })
     }
 }

@@ -12,6 +12,7 @@ pub mod laws;
 mod limits;
 mod names;
 mod resource;
+mod shared_text;
 mod spellable;
 mod type_trees;
 mod typed_values;

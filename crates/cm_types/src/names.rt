@@ -2,14 +2,13 @@
 
 ghost use Rattle.std.specs.Prelude.{◌≡◌, IfOk, IfErr, ◌⊎◌, Some};
 ghost use Rattle.std.specs.List.{list_all};
-ghost use Rattle.std.specs.String.{string_bytes};
 ghost use Rattle.cm_types.specs.Names.{is_in_word, is_in_acronym, is_fragment, is_label};
 ghost use Rattle.cm_types.specs.Names.{is_same_name, label_fault};
 ghost use Rattle.cm_types.specs.NamesFaults.{fault_number};
 
+use crate::shared_text::SharedText;
 use std::alloc::{AllocError, Global};
 use std::marker::Model;
-use std::rc::Rc;
 use thiserror::Error;
 
 /// Why a text is refused as a name, the most basic reason first.
@@ -49,19 +48,19 @@ impl NameFault {
 /// Contracts see a label as the bytes of its text.
 #[derive(Drop)]
 pub struct Label {
-    text: Rc<String>,
+    text: SharedText,
 }
 
 impl Model for Label {
     ghost use Rattle.std.specs.Prelude.{◌≡◌, ℕ, List, true};
-    ghost use Rattle.std.specs.String.{string_bytes};
     ghost use Rattle.cm_types.specs.Names.{is_label};
+    ghost use Rattle.cm_types.specs.SharedTexts.{text_bytes};
 
     ghost Value = { List ℕ };
 
-    ghost view = { λ label. string_bytes label.text.value };
+    ghost view = { λ label. text_bytes label.text };
 
-    ghost invariant = { λ label. is_label (string_bytes label.text.value) ≡ true };
+    ghost invariant = { λ label. is_label (text_bytes label.text) ≡ true };
 }
 
 impl Label {
@@ -85,7 +84,7 @@ impl Label {
     {
         match label_fault(text) {
             Some(fault) => Err(fault),
-            None => match shared(alloc, text) {
+            None => match SharedText::new(alloc, text) {
                 Ok(text) => Ok(Label { text }),
                 Err(AllocError) => Err(NameFault::Memory),
             },
@@ -106,16 +105,8 @@ impl Label {
         ensures utf8 { is_utf8 result.now ≡ true }
         ensures label { is_label result.now ≡ true }
     {
-        self.text.as_bytes()
+        self.text.as_str().as_bytes()
     }
-}
-
-/// A copy of the text that can be shared.
-pub(crate) fn shared(alloc: Global, text: &str) -> Result<Rc<String>, AllocError>
-    ensures { IfOk result (λ copy. string_bytes copy.value ≡ text.now) }
-{
-    let copy = String::from_str(alloc, text)?;
-    Ok(Rc::new(alloc, copy)?)
 }
 
 impl Clone for Label {
@@ -124,7 +115,7 @@ impl Clone for Label {
     /// This label again; its text is shared. `AllocError` comes where it is shared too often to be
     /// counted.
     fn clone(&self) -> Result<Label, AllocError> {
-        let text = self.text.clone()?;
+        let text = self.text.share()?;
         Ok(Label { text })
     }
 }

@@ -1,8 +1,7 @@
 use Rattle.std.proofs.Common.{ap, ◌∙◌}
-use Rattle.std.specs.String.{string_bytes}
 use Rattle.cm_types.specs.Names.{is_label}
 use Rattle.cm_types.proofs.Labels.{label_is}
 use Rattle.cm_types.proofs.names.Label.as_str.Goals as goal
 
 pub returns-clause-label : goal.returns-clause-label
-returns-clause-label c = label_is _ (ap is_label c.as_str.ensures.value ∙ ap (λ t. is_label (string_bytes t)) c.deref.ensures ∙ c.self.invariant)
+returns-clause-label c = label_is _ (ap is_label c.as_str.ensures ∙ c.self.invariant)
