@@ -99,10 +99,10 @@ fn return_from(
     ensures kept { (plan : Plan) → ArePlanned plan links.now → Runs plan state.old
         → OnOk result (IsKept plan state.new) }
 {
-    match top.purpose {
+    match &top.purpose {
         Purpose::Root => return_root(state, given),
-        Purpose::Call(call) => return_call(alloc, links, state, top, &call, given, values),
-        Purpose::Destructor { dropper } => return_destructor(state, dropper, given, values),
+        Purpose::Call(call) => return_call(alloc, links, state, top, call, given, values),
+        Purpose::Destructor { dropper } => return_destructor(state, *dropper, given, values),
     }
 }
 

@@ -376,9 +376,10 @@ impl Set {
         ensures only { IfErr result (λ m. m ≡ Misuse.Idle) }
         ensures err { OnErr result ((self.new ≡ self.old) × (values.new ≡ values.old)) }
     {
-        let Some(top) = self.state.stack.top() else {
+        if self.state.stack.len() == 0 {
             return Err(Misuse::Idle);
-        };
+        }
+        let top = self.state.stack.last();
         histories_are_valid();
         moves_write_bytes(made);
         let outcome = step_at(self.alloc, &self.links, &mut self.state, &top, made, values);
