@@ -1,6 +1,7 @@
 //! A guest whose allocator is written already.
 
-ghost use Rattle.std.specs.Prelude.{⊤};
+ghost use Rattle.std.specs.Prelude.{◌≡◌, false, is_some};
+ghost use Rattle.cm_machine_guests.specs.Allocating.{PlaysLeft, grows, left_to_guest};
 
 use crate::bump::{Bump, Room};
 use crate::seeing_guest::SeeingGuest;
@@ -19,7 +20,7 @@ struct Request {
 ///
 /// It gives out the regions of a range of its memory, which it lets grow as far as they need. Where
 /// there is no room, it stops. The other guest never sees `Event::Realloc`, nor what a growth of
-/// this one's asking led to.
+/// this one's asking led to; it plays all that is left.
 #[derive(Drop)]
 pub struct WithAllocator<G> {
     alloc: Global,
@@ -40,8 +41,12 @@ impl<G: SeeingGuest> WithAllocator<G> {
         }
     }
 
-    /// The move that answers a request, in a memory of so many bytes.
-    fn answer(&mut self, request: Request, bytes: usize) -> Move {
+    /// The move that answers a request, in a memory of so many bytes, where none waits.
+    fn answer(&mut self, request: Request, bytes: usize) -> Move
+        requires { is_some self.old.waiting ≡ false }
+        ensures waits { is_some self.new.waiting ≡ grows result }
+        ensures guest { self.new.guest ≡ self.old.guest }
+    {
         match self.regions.allocate(request.size, request.align, bytes) {
             Room::At(at) => returns(self.alloc, at),
             Room::Grow(pages) => {
@@ -66,13 +71,16 @@ fn request_of(args: &[CoreValue]) -> Option<Request> {
 }
 
 /// Returns an address; stops where there is no memory for the move.
-fn returns(alloc: Global, at: u32) -> Move {
+fn returns(alloc: Global, at: u32) -> Move
+    ensures { grows result ≡ false }
+{
     Move::ret(alloc, &[CoreValue::I32(at)]).unwrap_or(Move::Unreachable)
 }
 
 impl<G: SeeingGuest> SeeingGuest for WithAllocator<G> {
-    // Nothing is promised of what it does: what is proved of the machine holds all the same.
-    ghost plays = { λ _ _. ⊤ };
+    // Where its regions are is `Bump`'s to say.
+    ghost plays = { λ g told.
+        PlaysLeft G.plays g.guest (left_to_guest (is_some g.waiting) told) };
 
     fn next(&mut self, seen: &Event, memory: &[u8]) -> Move {
         let request = match (seen, self.waiting.take()) {
