@@ -26,6 +26,10 @@ exported_in s None name =
 exported_in s (Some interface) name =
     option_and_then (λ e. exported_func_of s e (Some name)) (export_named s interface)
 
+-- the function that a text names among the exports
+abbrev pub exported_under : Spaces → List ℕ → Option FuncDef
+exported_under s text = let n = parts_of text in exported_in s n.interface n.name
+
 -- the core function that a function lifts
 abbrev pub lifted_core : FuncDef → Option ℕ
 lifted_core (lifted f ty options) = Some f
@@ -33,8 +37,7 @@ lifted_core (imported import item ty) = None
 
 -- the core function that the export of a text lifts
 abbrev pub exported_core : Spaces → List ℕ → Option ℕ
-exported_core s text =
-    let n = parts_of text in option_and_then lifted_core (exported_in s n.interface n.name)
+exported_core s text = option_and_then lifted_core (exported_under s text)
 
 -- ---- imports
 

@@ -2,7 +2,7 @@
 
 ghost use Rattle.std.specs.Prelude.{◌≡◌, List, length};
 ghost use Rattle.cm_types.specs.Types.{FuncTy};
-ghost use Rattle.cm_validate_spaces.specs.cm_validate_entries.Entries.{func_def};
+ghost use Rattle.cm_validate_spaces.specs.cm_validate_entries.Entries.{func_def, is_func_there};
 ghost use Rattle.cm_validate_spaces.specs.Checked.{funcs_in, spaces_in};
 ghost use Rattle.cm_validate_functions.specs.Kept.{AreLiftsOf, AreNamesOf, AreUsesOf};
 ghost use Rattle.cm_validate_functions.specs.Leading.{lifted_core};
@@ -54,7 +54,7 @@ fn lifted_core(func: FuncEntry<'_>) -> Option<u32>
 }
 
 impl<'b, 'a> Functions<'b, 'a> {
-    ghost use Rattle.std.specs.Prelude.{◌<◌, IfOk, slice_get};
+    ghost use Rattle.std.specs.Prelude.{◌<◌, IfOk, IfSome, slice_get, true};
     ghost use Rattle.std.specs.Option.{option_and_then, option_map};
     ghost use Rattle.cm_validate_functions.specs.CoreTypes.{core_type, core_type_of};
     ghost use Rattle.cm_validate_functions.specs.CoreTypes.{guest_type, helper_type};
@@ -62,7 +62,7 @@ impl<'b, 'a> Functions<'b, 'a> {
     ghost use Rattle.cm_validate_functions.specs.Functions.{spaces_of};
     ghost use Rattle.cm_validate_functions.specs.Kept.{lift_def};
     ghost use Rattle.cm_validate_functions.specs.Leading.{exported_core, exported_in};
-    ghost use Rattle.cm_validate_functions.specs.Leading.{imported_core};
+    ghost use Rattle.cm_validate_functions.specs.Leading.{exported_under, imported_core};
     ghost use Rattle.cm_validate_functions.specs.FuncNames.{name_parts};
     ghost use Rattle.cm_validate_functions.specs.Lifts.{allocating, lifting, post_return};
     ghost use Rattle.cm_validate_functions.specs.Used.{destroyed_by, lower_allocating};
@@ -88,6 +88,14 @@ impl<'b, 'a> Functions<'b, 'a> {
         })
     }
 
+    /// The component, as `validate` left it.
+    pub fn checked(&self) -> &'b Checked<'a>
+        ensures spaces { spaces_in result.now ≡ spaces_of self.now }
+        ensures funcs { funcs_in result.now ≡ funcs_of self.now }
+    {
+        self.checked
+    }
+
     /// How many core functions there are.
     pub fn count(&self) -> u32
         ensures { result ≡ length (core_funcs self.now) }
@@ -107,8 +115,10 @@ impl<'b, 'a> Functions<'b, 'a> {
 
     /// The function that is exported under a name.
     fn own_func(&self, name: &str) -> Option<FuncEntry<'a>>
-        ensures { option_map (func_def (funcs_of self.now)) result
+        ensures is { option_map (func_def (funcs_of self.now)) result
             ≡ exported_in (spaces_of self.now) None name.now }
+        ensures there { IfSome result
+            (λ f. is_func_there (length (funcs_of self.now)) f ≡ true) }
     {
         match self.names.export(name) {
             None => None,
@@ -118,8 +128,10 @@ impl<'b, 'a> Functions<'b, 'a> {
 
     /// The function that an exported instance has under a name.
     fn func_in(&self, interface: &str, name: &str) -> Option<FuncEntry<'a>>
-        ensures { option_map (func_def (funcs_of self.now)) result
+        ensures is { option_map (func_def (funcs_of self.now)) result
             ≡ exported_in (spaces_of self.now) (Some interface.now) name.now }
+        ensures there { IfSome result
+            (λ f. is_func_there (length (funcs_of self.now)) f ≡ true) }
     {
         match self.names.export(interface) {
             None => None,
@@ -129,8 +141,10 @@ impl<'b, 'a> Functions<'b, 'a> {
 
     /// The function that a name names among the exports.
     fn func(&self, name: FuncName<'_>) -> Option<FuncEntry<'a>>
-        ensures { option_map (func_def (funcs_of self.now)) result ≡ exported_in
+        ensures is { option_map (func_def (funcs_of self.now)) result ≡ exported_in
             (spaces_of self.now) (name_parts name.entry).interface (name_parts name.entry).name }
+        ensures there { IfSome result
+            (λ f. is_func_there (length (funcs_of self.now)) f ≡ true) }
     {
         match name.interface {
             None => self.own_func(name.name),
@@ -138,12 +152,24 @@ impl<'b, 'a> Functions<'b, 'a> {
         }
     }
 
+    /// The function that is exported under a name, or that an exported instance has: a lift with
+    /// its core function, type and options, or an import of the component. None where there is no
+    /// such function.
+    pub fn exported(&self, name: &str) -> Option<FuncEntry<'a>>
+        ensures is { option_map (func_def (funcs_of self.now)) result
+            ≡ exported_under (spaces_of self.now) name.now }
+        ensures there { IfSome result
+            (λ f. is_func_there (length (funcs_of self.now)) f ≡ true) }
+    {
+        self.func(func_name(name))
+    }
+
     /// The core function that an exported function lifts, by the name of the function. None where
     /// the component exports no such function, or where that is an import of it.
     pub fn export(&self, name: &str) -> Option<u32>
         ensures { result ≡ exported_core (spaces_of self.now) name.now }
     {
-        match self.func(func_name(name)) {
+        match self.exported(name) {
             None => None,
             Some(func) => lifted_core(func),
         }

@@ -7,14 +7,14 @@ use Rattle.cm_validate_functions.proofs.HeldLaws.{number_set}
 use Rattle.cm_validate_functions.specs.Leading.{export_named}
 use Rattle.cm_validate_functions.proofs.functions.Functions.own_func.Goals as goal
 
-pub returns-in-None : goal.returns-in-None
-returns-in-None c =
+pub returns-in-None-clause-is : goal.returns-in-None-clause-is
+returns-in-None-clause-is c =
     let s = spaces_in c.args.self.now.checked.now in
     let found : c.export.result ≡ export_named s c.args.name.now = held number_set _ _ c.args.self.now.named (c.export.ensures s) in
     sym (ap (option_and_then (λ e. exported_func_of s e None)) (sym found ∙ c.in-None.is))
 
-pub returns-in-Some : goal.returns-in-Some
-returns-in-Some c =
+pub returns-in-Some-clause-is : goal.returns-in-Some-clause-is
+returns-in-Some-clause-is c =
     let s = spaces_in c.args.self.now.checked.now in
     let found : c.export.result ≡ export_named s c.args.name.now = held number_set _ _ c.args.self.now.named (c.export.ensures s) in
     c.func.ensures.is ∙ sym (ap (option_and_then (λ e. exported_func_of s e None)) (sym found ∙ c.in-Some.is))
