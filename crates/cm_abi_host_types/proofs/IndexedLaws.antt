@@ -216,7 +216,37 @@ mutual
   payloads_stay (plain l cs) = payloads_stay cs
   payloads_stay (carrying l t cs) = rw (sizes_stay t, payloads_stay cs) refl
 
+-- ---- no handles are left
+
+mutual
+  free : (t : Ty) → holds is_handle (indexed t) ≡ false
+  free bool = refl
+  free (signed w) = refl
+  free (unsigned w) = refl
+  free char = refl
+  free string = refl
+  free (list t) = free t
+  free (fixed_list t n) = free t
+  free (fields k fs) = free_fields fs
+  free (cases k cs) = free_cases cs
+  free (flags ls) = refl
+  free (own r) = refl
+  free (borrow r) = refl
+
+  free_fields : (fs : Fields) → fields_hold is_handle (indexed_fields fs) ≡ false
+  free_fields no_fields = refl
+  free_fields (field l t fs) = rw (free t, free_fields fs) refl
+
+  free_cases : (cs : Cases) → cases_hold is_handle (indexed_cases cs) ≡ false
+  free_cases no_cases = refl
+  free_cases (plain l cs) = free_cases cs
+  free_cases (carrying l t cs) = rw (free t, free_cases cs) refl
+
 -- ---- a row of types
+
+pub row_free : (fs : Fields) → fields_hold is_handle (host_types fs) ≡ false
+row_free no_fields = refl
+row_free (field l t fs) = rw (free t, row_free fs) refl
 
 pub row_nodes : (fs : Fields) → nodes_of_fields (host_types fs) ≡ nodes_of_fields fs
 row_nodes no_fields = refl
@@ -226,7 +256,7 @@ pub row_spellable : (fs : Fields) → are_spellable (host_types fs) ≡ are_spel
 row_spellable no_fields = refl
 row_spellable (field l t fs) = rw (spellable_stays t, row_spellable fs) refl
 
-pub ruleset row_laws = (row_nodes, row_spellable, nodes_stay, spellable_stays)
+pub ruleset row_laws = (row_free, row_nodes, row_spellable, nodes_stay, spellable_stays)
 
 pub row_kinds : (fs : Fields) → flat_of_fields (host_types fs) ≡ flat_of_fields fs
 row_kinds no_fields = refl

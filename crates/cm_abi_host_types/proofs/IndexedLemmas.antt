@@ -1,9 +1,12 @@
 -- Types with u32 in the place of each handle, as the code builds them.
-use Rattle.std.proofs.Common.{◌≡◌, ℕ, List, [], ◌∷◌, map, Option, Some, None, refl, ap, ◌∙◌, codes}
+use Rattle.std.proofs.Common.{◌≡◌, ℕ, List, [], ◌∷◌, map, Option, Some, None, refl, ap, sym, ◌∙◌, codes, false}
 use Rattle.std.specs.Option.{option_map}
+use Rattle.cm_types.specs.Holds.{fields_hold, holds, is_handle}
 use Rattle.cm_types.specs.Types.{Ty, Fields, Cases, result_type, option_type, enum_type, cases, no_fields, field, no_cases, plain, carrying}
 use Rattle.cm_types.specs.TypeTrees.{TypedLabel, CaseOf, fields_from, parts_from, cases_from, plain_from, case_before}
 use Rattle.cm_abi_host_types.specs.Indexed.{indexed, indexed_fields, indexed_cases, indexed_field, indexed_case, host_types}
+use Rattle.cm_abi_host_types.proofs.IndexedLaws.{without}
+use Rattle.cm_lemmas.proofs.Bools.{or_left, or_right}
 
 pub fields_by : (fs : List TypedLabel) → fields_from (map indexed_field fs) ≡ indexed_fields (fields_from fs)
 fields_by [] = refl
@@ -33,5 +36,12 @@ result_by p q = ap (cases result_type) (ap (case_before (codes "ok") (option_map
 pub rows_by : (fs : List TypedLabel) → parts_from (map (λ (f : TypedLabel). indexed f.1) fs) ≡ host_types (fields_from fs)
 rows_by [] = refl
 rows_by (f ∷ fs) = ap (field [] (indexed f.1)) (rows_by fs)
+
+-- a row of types without handles
+pub row_again : (ts : List Ty) → fields_hold is_handle (parts_from ts) ≡ false → parts_from ts ≡ host_types (parts_from ts)
+row_again [] h = refl
+row_again (t ∷ ts) h =
+    sym (ap (λ u. field [] u (host_types (parts_from ts))) (without t (or_left (holds is_handle t) (fields_hold is_handle (parts_from ts)) h))
+    ∙ ap (field [] t) (sym (row_again ts (or_right (holds is_handle t) (fields_hold is_handle (parts_from ts)) h))))
 
 pub ruleset indexed_laws = (fields_by, parts_by, cases_by, plain_by, result_by)

@@ -1,7 +1,8 @@
 //! The types of the values that go one way in a call, as a host sees them.
 
-ghost use Rattle.std.specs.Prelude.{◌≡◌, ◌≤◌, ◌↔◌, IfOk, IsTrue, true};
+ghost use Rattle.std.specs.Prelude.{◌≡◌, ◌≤◌, ◌↔◌, IfOk, IsTrue, false, true};
 ghost use Rattle.cm_types.specs.Funcs.{func_of};
+ghost use Rattle.cm_types.specs.Holds.{fields_hold, is_handle};
 ghost use Rattle.cm_types.specs.Limits.{nodes_of_fields};
 ghost use Rattle.cm_types.specs.declared.limits.TheConstants.{MAX_NODES};
 ghost use Rattle.cm_types.specs.Spellable.{are_spellable};
@@ -30,6 +31,7 @@ pub struct HostTypes {
     kinds: Vec<CoreKind>,
     ghost within: { nodes_of_fields (row_of trees.items) ≤ MAX_NODES },
     ghost spellable: { are_spellable (row_of trees.items) ≡ true },
+    ghost free: { fields_hold is_handle (row_of trees.items) ≡ false },
     ghost passed: { kinds.items ≡ call_kinds (way_of way) (row_of trees.items) },
 }
 
@@ -52,6 +54,7 @@ impl HostTypes {
     fn of_trees(alloc: Global, way: Way, trees: Vec<TypeTree>) -> Result<HostTypes, AllocError>
         requires within { nodes_of_fields (row_of trees.items) ≤ MAX_NODES }
         requires spellable { are_spellable (row_of trees.items) ≡ true }
+        requires free { fields_hold is_handle (row_of trees.items) ≡ false }
         ensures types { IfOk result (λ t. types_in t ≡ row_of trees.items) }
         ensures way { IfOk result (λ t. way_in t ≡ way_of way) }
     {
@@ -82,6 +85,14 @@ impl HostTypes {
             Some(tree) => HostTypes::of_trees(alloc, Way::Results, one_tree(alloc, tree)?),
             None => HostTypes::of_trees(alloc, Way::Results, Vec::new(alloc)),
         }
+    }
+
+    /// None of the types is one of handles: they are seen by a host as they are.
+    #[tactic(auto, using(crate::proofs::IndexedLemmas::row_again))]
+    pub fn has_no_handles(&self)
+        ensures { types_in self.now ≡ host_types (types_in self.now) }
+    {
+        let _way = self.way;
     }
 
     /// Which way the values go.
