@@ -1,10 +1,13 @@
 //! Functions and resources of a component by name.
 
+ghost use Rattle.std.specs.Prelude.{◌≡◌, ℕ, IfSome, Option, Some, slice_get};
+ghost use Rattle.cm_types_arena.specs.Placed.{placed_func};
+ghost use Rattle.cm_validate_spaces.specs.Checked.{funcs_in, spaces_in};
+ghost use Rattle.cm_validate_model.specs.Definitions.{lowered as lowered_def};
+
 use cm_binary_model::CanonOption;
 use cm_types_arena::{Extern, ExternDesc, Placed};
-use cm_validate_spaces::{
-    Checked, CoreFuncEntry, ExportedEntry, FuncEntry, MadeFunc, MemberEntry, Resource,
-};
+use cm_validate_spaces::{Checked, CoreFuncEntry, ExportedEntry, MadeFunc, MemberEntry, Resource};
 
 /// The core functions of a resource: those that make, tell and drop a handle of it, and its
 /// destructor, where the component has them.
@@ -46,30 +49,13 @@ fn export_number(checked: &Checked<'_>, name: &str) -> Option<usize> {
     None
 }
 
-/// The function that a component lifts and exports under a name, as `interface#function` or, of no
-/// interface, `function`.
-pub(crate) fn exported<'a>(checked: &Checked<'a>, name: &str) -> Option<Typed<'a>> {
-    let (interface, item) = parts_of(name);
-    let func = match interface {
-        Some(interface) => checked.func(export_number(checked, interface)?, Some(item))?,
-        None => checked.func(export_number(checked, item)?, None)?,
-    };
-    match func {
-        FuncEntry::Lifted {
-            core_func,
-            ty,
-            options,
-        } => Some(Typed {
-            core_func,
-            ty,
-            options,
-        }),
-        FuncEntry::Imported { .. } => None,
-    }
-}
-
 /// The function that a core function lowers.
-pub(crate) fn lowered<'a>(checked: &Checked<'a>, core_func: u32) -> Option<Typed<'a>> {
+pub(crate) fn lowered<'a>(checked: &Checked<'a>, core_func: u32) -> Option<Typed<'a>>
+    ensures itself { IfSome result (λ t. t.core_func ≡ core_func) }
+    ensures lowers { IfSome result (λ t. (import : ℕ) × (item : Option ℕ)
+        × (slice_get (spaces_in checked.now).core_funcs core_func ≡ Some (lowered_def import item
+        (placed_func (funcs_in checked.now) t.ty) t.options.now))) }
+{
     match checked.core(core_func)? {
         CoreFuncEntry::Made(MadeFunc::Lowered { ty, options, .. }) => Some(Typed {
             core_func,

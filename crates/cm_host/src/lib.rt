@@ -5,20 +5,25 @@
 //! function that the component imports.
 #![tactic(auto)]
 
+mod answer;
+mod caller;
 mod calling;
 mod fault;
 mod found;
 mod played;
+mod playing;
 mod seat;
 mod served;
 mod service;
 mod writing;
 
+pub use answer::Answer;
+pub use caller::Caller;
 pub use cm_host_values::ValuesFault;
 pub use cm_types::Value;
 pub use fault::{CallFault, SeatFault, ServeFault};
 pub use found::ResourceFuncs;
-pub use played::{Caller, Played};
+pub use played::Played;
 pub use seat::Seat;
 pub use served::Served;
-pub use service::{Answer, Service};
+pub use service::Service;

@@ -1,28 +1,28 @@
 //! What plays the instances of a set beside a host.
 
-ghost use Rattle.std.specs.Prelude.{⊤};
+ghost use Rattle.cm_host.specs.Calls.{PlaysSeat};
 
+use crate::caller::Caller;
 use crate::served::Served;
 use crate::service::Service;
-use cm_machine::{Event, Move, MoveQueue, SeeingGuest, WithAllocator};
+use cm_machine::{Event, Move, SeeingGuest};
 
-/// A guest that makes one call, as a root, and returns.
-pub type Caller = WithAllocator<MoveQueue>;
-
-/// What plays an instance: a host on its seats, or any other guest.
+/// What plays an instance: a host on its seats, or a guest of another kind on those of other
+/// components.
 #[derive(Drop)]
-pub enum Played<S> {
+pub enum Played<S, G = Caller> {
     /// A seat whose functions are those of a service.
     Host(Served<S>),
     /// A seat that makes a call.
     Caller(Caller),
     /// An instance of any other component.
-    Guest(Box<dyn SeeingGuest>),
+    Guest(G),
 }
 
-impl<S: Service> SeeingGuest for Played<S> {
-    // Nothing is promised of what it does: what is proved of the machine holds all the same.
-    ghost plays = { λ _ _. ⊤ };
+impl<S: Service, G: SeeingGuest> SeeingGuest for Played<S, G> {
+    ghost plays = { λ p told.
+        PlaysSeat ⟦<Served<S> as SeeingGuest>⟧.plays ⟦<Caller as SeeingGuest>⟧.plays G.plays p
+        told };
 
     fn next(&mut self, seen: &Event, memory: &[u8]) -> Move {
         match self {

@@ -1,13 +1,17 @@
 //! A component of a set that stands in for a host.
 
 ghost use Rattle.std.specs.Prelude.{◌≡◌, IfOk};
-ghost use Rattle.cm_host.specs.Seats.{instance_of};
+ghost use Rattle.cm_types.specs.Types.{FuncTy};
+ghost use Rattle.cm_types_arena.specs.TypeDefs.{func_at};
+ghost use Rattle.cm_validate_functions.specs.Functions.{funcs_of};
+ghost use Rattle.cm_host.specs.Seats.{ArePassedBy, Exports, Imports, instance_of};
 
 use crate::fault::SeatFault;
-use crate::found::{ResourceFuncs, Typed, exported, is_utf8, lowered, resource};
+use crate::found::{ResourceFuncs, Typed, is_utf8, lowered, resource};
 use cm_host_values::HostTypes;
-use cm_machine::{Checked, Linked};
+use cm_machine::Linked;
 use cm_validate_functions::Functions;
+use cm_validate_spaces::FuncEntry;
 use std::alloc::Global;
 
 /// A component of a linked set that stands in for a host, with the number of its instance. It
@@ -18,7 +22,6 @@ use std::alloc::Global;
 /// itself.
 #[derive(Drop)]
 pub struct Seat<'b, 'a> {
-    pub(crate) checked: &'b Checked<'a>,
     pub(crate) functions: Functions<'b, 'a>,
     pub(crate) instance: u32,
 }
@@ -32,7 +35,9 @@ pub(crate) struct HostFunc {
 }
 
 impl<'b, 'a> Seat<'b, 'a> {
-    /// The component of a linked set, by the number of its instance.
+    /// The component of a linked set, by the number of its instance, from 0.
+    ///
+    /// `NoComponent` where the set has none of this number, `Memory` where there is no memory.
     pub fn of(
         alloc: Global,
         linked: &'b Linked<'a>,
@@ -45,23 +50,27 @@ impl<'b, 'a> Seat<'b, 'a> {
         };
         let functions = Functions::of(alloc, checked)?;
         Ok(Seat {
-            checked,
             functions,
             instance,
         })
     }
 
-    /// The core functions of a resource of an instance that the component exports or imports.
+    /// The core functions of a resource of an instance that the component exports or imports, by
+    /// its name: `None` where it has no such resource. It looks at each core function once.
     pub fn resource(&self, name: &str) -> Option<ResourceFuncs> {
-        resource(self.checked, name)
+        resource(self.functions.checked(), name)
     }
 
     /// A function of the component in terms of values.
-    fn host_func(&self, alloc: Global, typed: Typed<'a>) -> Result<HostFunc, SeatFault> {
+    fn host_func(&self, alloc: Global, typed: Typed<'a>) -> Result<HostFunc, SeatFault>
+        ensures itself { IfOk result (λ f. f.core_func ≡ typed.entry.core_func) }
+        ensures passed { IfOk result (λ f. ArePassedBy
+            (func_at (funcs_of self.now.functions) typed.entry.ty.place) f.params f.results) }
+    {
         if !is_utf8(typed.options) {
             return Err(SeatFault::NotUtf8);
         }
-        let types = self.checked.types();
+        let types = self.functions.checked().types();
         if typed.ty.place >= types.func_count() {
             return Err(SeatFault::NoFunction);
         }
@@ -73,20 +82,39 @@ impl<'b, 'a> Seat<'b, 'a> {
         })
     }
 
-    /// The function that the component exports under a name.
-    pub(crate) fn exported(&self, alloc: Global, name: &str) -> Result<HostFunc, SeatFault> {
-        match exported(self.checked, name) {
-            Some(typed) => self.host_func(alloc, typed),
-            None => Err(SeatFault::NoFunction),
+    /// The function that the component exports under a name, where it lifts it.
+    pub(crate) fn exported(&self, alloc: Global, name: &str) -> Result<HostFunc, SeatFault>
+        ensures { IfOk result (λ f. (ty : FuncTy) × Exports self.now name.now f.core_func ty
+            × ArePassedBy ty f.params f.results) }
+    {
+        match self.functions.exported(name) {
+            Some(
+                FuncEntry::Lifted {
+                    core_func,
+                    ty,
+                    options,
+                },
+            ) => self.host_func(
+                alloc,
+                Typed {
+                    core_func,
+                    ty,
+                    options,
+                },
+            ),
+            Some(FuncEntry::Imported { .. }) | None => Err(SeatFault::NoFunction),
         }
     }
 
     /// The function that the component imports and lowers, by its name.
-    pub(crate) fn imported(&self, alloc: Global, name: &str) -> Result<HostFunc, SeatFault> {
+    pub(crate) fn imported(&self, alloc: Global, name: &str) -> Result<HostFunc, SeatFault>
+        ensures { IfOk result (λ f. (ty : FuncTy) × Imports self.now name.now f.core_func ty
+            × ArePassedBy ty f.params f.results) }
+    {
         let Some(core_func) = self.functions.import(name) else {
             return Err(SeatFault::NoFunction);
         };
-        match lowered(self.checked, core_func) {
+        match lowered(self.functions.checked(), core_func) {
             Some(typed) => self.host_func(alloc, typed),
             None => Err(SeatFault::NoFunction),
         }

@@ -1,122 +1,113 @@
 //! A guest whose functions are those of a service.
 
-ghost use Rattle.std.specs.Prelude.{⊤, IfSome, ◌<◌, length};
+ghost use Rattle.std.specs.Prelude.{◌≡◌, ◌⊎◌, [], ◌∷◌, ◌++◌, OnErr, OnOk, Some, slice_get};
+ghost use Rattle.cm_types.specs.Types.{FuncTy};
+ghost use Rattle.cm_machine.specs.cm_machine_model.Moves.{ReturnsWith};
+ghost use Rattle.cm_host.specs.Seats.{ArePassedBy, Exports, service_of};
+ghost use Rattle.cm_host.specs.Serving.{Answers, DestroysBy, EntersAt, GoesOn, IsFollowed, Serves};
+ghost use Rattle.cm_host.specs.Serving.{destructor_at, place_of, served_by};
 
+use crate::answer::Answer;
 use crate::fault::{SeatFault, ServeFault};
+use crate::playing::{Playing, returns};
 use crate::seat::{HostFunc, Seat};
-use crate::service::{Answer, Service};
-use crate::writing::{ALL_ROOM, push_writes, returns};
-use cm_host_values::{Lowered, lift_values, lower_values};
-use cm_machine::{Bump, Event, Move, Room, SeeingGuest};
+use crate::service::Service;
+use crate::writing::ALL_ROOM;
+use cm_host_values::lift_values;
+use cm_machine::{Event, Move, SeeingGuest};
 use cm_types::{CoreValue, Value};
 use std::alloc::{AllocError, Global};
-use std::collections::VecDeque;
 
 /// A function that is served, with its key.
 #[derive(Drop)]
-struct Entry {
-    func: HostFunc,
-    key: u32,
+pub(crate) struct Entry {
+    pub(crate) func: HostFunc,
+    pub(crate) key: u32,
 }
 
 /// A destructor that is served, with its key.
 #[derive(Clone, Copy)]
-struct Destructor {
+pub(crate) struct Destructor {
     core_func: u32,
     key: u32,
-}
-
-/// A request for a region, as an allocator gets it.
-#[derive(Clone, Copy)]
-struct Wanted {
-    size: u32,
-    align: u32,
 }
 
 /// A guest whose functions are those of a service: it plays the seat of a component that stands in
 /// for a host. Its memory is given out anew for each call. What is not served, and what can't be
 /// passed, traps.
+///
+/// Contracts see each of its turns as what its service got and what became of the answer: `Serves`.
 #[derive(Drop)]
 pub struct Served<S> {
     alloc: Global,
     service: S,
     entries: Vec<Entry>,
     destructors: Vec<Destructor>,
-    regions: Bump,
-    /// Whether the last call's body has returned, so that its regions are free.
-    is_over: bool,
-    /// The request that waits for the memory to grow.
-    waiting: Option<Wanted>,
-    /// The entry whose function asked for a handle.
-    asking: Option<usize>,
-    /// The moves that are to be made next.
-    moves: VecDeque<Move>,
+    playing: Playing,
 }
 
-/// The request that an allocator's arguments are.
-fn wanted_of(args: &[CoreValue]) -> Option<Wanted> {
-    match args {
-        [_, _, CoreValue::I32(align), CoreValue::I32(size)] => Some(Wanted {
-            size: *size,
-            align: *align,
-        }),
-        _ => None,
-    }
-}
-
-/// The entry of a core function.
-fn entry_of(entries: &[Entry], core_func: u32) -> Option<usize>
-    ensures { IfSome result (λ i. i < length entries.now) }
+/// The place of the first entry of a core function.
+fn place_of(entries: &[Entry], core_func: u32) -> Option<usize>
+    ensures { result ≡ place_of entries.now core_func }
 {
-    for (i, entry) in entries.iter().enumerate() {
-        if entry.func.core_func == core_func {
-            return Some(i);
-        }
-    }
-    None
+    entries
+        .iter()
+        .position(|entry| entry.func.core_func == core_func)
 }
 
-/// The key of a destructor.
-fn key_of(destructors: &[Destructor], core_func: u32) -> Option<u32> {
-    for destructor in destructors {
-        if destructor.core_func == core_func {
-            return Some(destructor.key);
-        }
-    }
-    None
+/// The place of the first destructor that is served of a core function.
+fn destructor_at(destructors: &[Destructor], core_func: u32) -> Option<usize>
+    ensures { result ≡ destructor_at destructors.now core_func }
+{
+    destructors
+        .iter()
+        .position(|destructor| destructor.core_func == core_func)
 }
 
-/// Puts the moves that return values behind others, in a memory of so many bytes.
-fn push_return(
-    alloc: Global,
-    moves: &mut VecDeque<Move>,
-    lowered: &Lowered,
-    memory: usize,
-) -> Result<(), AllocError> {
-    push_writes(alloc, moves, lowered, memory)?;
-    moves.push_back(Move::ret(alloc, &lowered.slots)?)?;
-    Ok(())
+/// The number that a call of a function of handles came to: 0 where it comes to none.
+fn number_of(values: &[CoreValue]) -> u32 {
+    match values {
+        [CoreValue::I32(number)] => *number,
+        _ => 0,
+    }
 }
 
 impl<S: Service> Served<S> {
     /// A guest that serves nothing of this service yet.
-    pub fn new(alloc: Global, service: S) -> Served<S> {
+    pub fn new(alloc: Global, service: S) -> Served<S>
+        ensures service { service_of result ≡ service }
+        ensures none { served_by result ≡ [] }
+    {
         Served {
             alloc,
             service,
             entries: Vec::new(alloc),
             destructors: Vec::new(alloc),
-            regions: ALL_ROOM,
-            is_over: false,
-            waiting: None,
-            asking: None,
-            moves: VecDeque::new(alloc),
+            playing: Playing::new(alloc, ALL_ROOM),
         }
+    }
+
+    /// The service, as its functions left it.
+    pub fn service(&self) -> &S
+        ensures { result.now ≡ service_of self.now }
+    {
+        &self.service
     }
 
     /// Serves a function that the seat's component exports under a name, by the service's function
     /// of this key. What was said first of a function holds.
-    pub fn serve(&mut self, seat: &Seat<'_, '_>, name: &str, key: u32) -> Result<(), SeatFault> {
+    ///
+    /// `NoFunction` where the component exports no function of its own under the name, `NotUtf8`
+    /// where it passes strings in another encoding, `Memory` where there is no memory; nothing is
+    /// served then that was not.
+    pub fn serve(&mut self, seat: &Seat<'_, '_>, name: &str, key: u32) -> Result<(), SeatFault>
+        ensures ok { OnOk result ((e : Entry) × (ty : FuncTy) × (e.key ≡ key)
+            × Exports seat.now name.now e.func.core_func ty
+            × ArePassedBy ty e.func.params e.func.results
+            × (served_by self.new ≡ served_by self.old ++ e ∷ [])) }
+        ensures service { service_of self.new ≡ service_of self.old }
+        ensures err { OnErr result (served_by self.new ≡ served_by self.old) }
+    {
         let func = seat.exported(self.alloc, name)?;
         self.entries.push(Entry { func, key })?;
         Ok(())
@@ -124,7 +115,7 @@ impl<S: Service> Served<S> {
 
     /// Serves functions that the seat's component exports under these names, each by the service's
     /// function whose key is its place in the list, from 0. Where one is at fault, those before it
-    /// are served.
+    /// are served; the faults are those of `serve`.
     pub fn serve_all(&mut self, seat: &Seat<'_, '_>, names: &[&str]) -> Result<(), SeatFault> {
         let mut key: u32 = 0;
         for name in names {
@@ -136,12 +127,18 @@ impl<S: Service> Served<S> {
 
     /// Serves the destructor of a resource that the seat's component exports under a name: the
     /// service's function of this key gets the representation, and answers nothing.
+    ///
+    /// `NoFunction` where the component exports no resource of its own with a destructor under the
+    /// name, `Memory` where there is no memory; nothing is served then that was not.
     pub fn serve_destructor(
         &mut self,
         seat: &Seat<'_, '_>,
         name: &str,
         key: u32,
-    ) -> Result<(), SeatFault> {
+    ) -> Result<(), SeatFault>
+        ensures functions { served_by self.new ≡ served_by self.old }
+        ensures service { service_of self.new ≡ service_of self.old }
+    {
         let Some(found) = seat.resource(name) else {
             return Err(SeatFault::NoFunction);
         };
@@ -152,141 +149,143 @@ impl<S: Service> Served<S> {
         Ok(())
     }
 
-    /// A new call begins: regions are given out anew where the last one is over.
-    fn begin(&mut self) {
-        if self.is_over {
-            self.regions = ALL_ROOM;
-            self.is_over = false;
-        }
-    }
-
-    /// The move that answers a request, in a memory of so many bytes.
-    fn allocate(&mut self, wanted: Wanted, memory: usize) -> Move {
-        match self.regions.allocate(wanted.size, wanted.align, memory) {
-            Room::At(at) => returns(self.alloc, &[CoreValue::I32(at)]),
-            Room::Grow(pages) => {
-                self.waiting = Some(wanted);
-                Move::Grow { pages }
+    /// The move by which the answer of the function at a place is followed. Where it is not passed,
+    /// the service is told why.
+    fn follow(&mut self, place: usize, answer: Result<Answer, AllocError>, memory: usize) -> Move
+        ensures followed { (e : Entry) → slice_get self.old.entries.items place ≡ Some e
+            → IsFollowed place e.func.results answer result self.new.playing self.old.service
+            self.new.service }
+        ensures entries { self.new.entries ≡ self.old.entries }
+        ensures destructors { self.new.destructors ≡ self.old.destructors }
+    {
+        let Some(entry) = self.entries.get(place) else {
+            return Move::Unreachable;
+        };
+        match self.playing.follow(place, &entry.func, &answer, memory) {
+            Ok(made) => made,
+            Err(fault) => {
+                self.service.refused(entry.key, ServeFault::Values(fault));
+                Move::Unreachable
             }
-            Room::Full => Move::Unreachable,
         }
     }
 
-    /// The next of the moves that are left.
-    fn next_move(&mut self) -> Move {
-        self.moves.pop_front().unwrap_or(Move::Unreachable)
+    /// The first move of a body that begins, of the function at a place.
+    fn enter_at(&mut self, place: usize, slots: &[CoreValue], memory: &[u8]) -> Move
+        ensures enters { EntersAt S.does self.old (Some place) slots.now memory.now result
+            self.new }
+        ensures entries { self.new.entries ≡ self.old.entries }
+        ensures destructors { self.new.destructors ≡ self.old.destructors }
+    {
+        let Some(entry) = self.entries.get(place) else {
+            return Move::Unreachable;
+        };
+        match lift_values(self.alloc, memory, &entry.func.params, slots) {
+            Ok(args) => {
+                let answer = self.service.serve(entry.key, &args);
+                self.follow(place, answer, memory.len())
+            }
+            Err(fault) => {
+                self.service
+                    .refused(entry.key, ServeFault::Arguments(fault));
+                Move::Unreachable
+            }
+        }
     }
 
     /// The first move of a body that begins.
-    fn enter(&mut self, core_func: u32, slots: &[CoreValue], memory: &[u8]) -> Move {
-        self.begin();
-        let Some(index) = entry_of(&self.entries, core_func) else {
-            return Move::Unreachable;
-        };
-        let entry = &self.entries[index];
-        let key = entry.key;
-        match lift_values(self.alloc, memory, &entry.func.params, slots) {
-            Ok(args) => {
-                let answer = self.service.serve(key, &args);
-                self.answer(index, answer.unwrap_or(Answer::Stop), memory.len())
-            }
-            Err(fault) => {
-                self.service.refused(key, ServeFault::Arguments(fault));
-                Move::Unreachable
-            }
-        }
-    }
-
-    /// The first move by which an answer is given, in a memory of so many bytes.
-    fn answer(&mut self, index: usize, answer: Answer, memory: usize) -> Move {
-        match answer {
-            Answer::Values(values) => self.give(index, &values, memory),
-            Answer::Ask { func, number } => {
-                self.asking = Some(index);
-                Move::call(self.alloc, func, &[CoreValue::I32(number)]).unwrap_or(Move::Unreachable)
-            }
-            Answer::Stop => Move::Unreachable,
-        }
-    }
-
-    /// The first move by which values are returned.
-    fn give(&mut self, index: usize, values: &[Value], memory: usize) -> Move {
-        let Some(entry) = self.entries.get(index) else {
-            return Move::Unreachable;
-        };
-        let key = entry.key;
-        match lower_values(self.alloc, &entry.func.results, values, &mut self.regions) {
-            Ok(lowered) => {
-                self.is_over = true;
-                match push_return(self.alloc, &mut self.moves, &lowered, memory) {
-                    Ok(()) => self.next_move(),
-                    Err(AllocError) => Move::Unreachable,
-                }
-            }
-            Err(fault) => {
-                self.service.refused(key, ServeFault::Values(fault));
-                Move::Unreachable
-            }
+    fn enter(&mut self, core_func: u32, slots: &[CoreValue], memory: &[u8]) -> Move
+        ensures enters { EntersAt S.does self.old (place_of self.old.entries.items core_func)
+            slots.now memory.now result self.new }
+        ensures entries { self.new.entries ≡ self.old.entries }
+        ensures destructors { self.new.destructors ≡ self.old.destructors }
+    {
+        self.playing.begin();
+        match place_of(&self.entries, core_func) {
+            Some(place) => self.enter_at(place, slots, memory),
+            None => Move::Unreachable,
         }
     }
 
     /// The move behind what a function asked, which came to these core values.
-    fn resume(&mut self, values: &[CoreValue], memory: usize) -> Move {
-        let number = match values {
-            [CoreValue::I32(number)] => *number,
-            _ => 0,
-        };
-        let Some(index) = self.asking.take() else {
+    fn resume(&mut self, values: &[CoreValue], memory: usize) -> Move
+        ensures goes { GoesOn self.old self.old.playing.asking result self.new }
+        ensures entries { self.new.entries ≡ self.old.entries }
+        ensures destructors { self.new.destructors ≡ self.old.destructors }
+    {
+        let Some(place) = self.playing.asking.take() else {
             return returns(self.alloc, &[]);
         };
-        let Some(entry) = self.entries.get(index) else {
+        let Some(entry) = self.entries.get(place) else {
             return Move::Unreachable;
         };
-        let answer = self.service.go_on(entry.key, number);
-        self.answer(index, answer.unwrap_or(Answer::Stop), memory)
+        let answer = self.service.go_on(entry.key, number_of(values));
+        self.follow(place, answer, memory)
+    }
+
+    /// Hands a representation to the destructor at a place.
+    fn destroy_at(&mut self, place: usize, rep: u32)
+        ensures destroys { DestroysBy S.does self.old (Some place) rep self.new }
+        ensures entries { self.new.entries ≡ self.old.entries }
+        ensures destructors { self.new.destructors ≡ self.old.destructors }
+    {
+        if let Some(destructor) = self.destructors.get(place) {
+            let _ = self
+                .service
+                .serve(destructor.key, &[Value::Unsigned(u64::from(rep))]);
+        }
     }
 
     /// The move of a destructor that begins.
-    fn destroy(&mut self, core_func: u32, rep: u32) -> Move {
-        if let Some(key) = key_of(&self.destructors, core_func) {
-            let _ = self.service.serve(key, &[Value::Unsigned(u64::from(rep))]);
+    fn destroy(&mut self, core_func: u32, rep: u32) -> Move
+        ensures destroys { DestroysBy S.does self.old
+            (destructor_at self.old.destructors.items core_func) rep self.new }
+        ensures returns { ReturnsWith [] result ⊎ (result ≡ Move.Unreachable) }
+        ensures entries { self.new.entries ≡ self.old.entries }
+        ensures destructors { self.new.destructors ≡ self.old.destructors }
+    {
+        if let Some(place) = destructor_at(&self.destructors, core_func) {
+            self.destroy_at(place, rep);
         }
         returns(self.alloc, &[])
     }
 
-    /// The move behind a growth of the memory.
-    fn grown(&mut self, pages: Option<u32>, memory: usize) -> Move {
-        match (pages, self.waiting.take()) {
-            (Some(_), Some(wanted)) => self.allocate(wanted, memory),
-            (Some(_), None) => self.next_move(),
-            (None, _) => Move::Unreachable,
+    /// The move behind a request or a growth: the next one of those that are left where it is none
+    /// of the allocator's.
+    fn allocate(&mut self, seen: &Event, memory: usize) -> Move
+        ensures service { self.new.service ≡ self.old.service }
+        ensures entries { self.new.entries ≡ self.old.entries }
+        ensures destructors { self.new.destructors ≡ self.old.destructors }
+    {
+        match self.playing.allocator_move(seen, memory) {
+            Some(made) => made,
+            None => self.playing.next_move(),
         }
     }
 
-    /// The move that answers a call of the allocator.
-    fn reallocate(&mut self, args: &[CoreValue], memory: usize) -> Move {
-        self.begin();
-        match wanted_of(args) {
-            Some(wanted) => self.allocate(wanted, memory),
-            None => Move::Unreachable,
+    /// The move that the guest makes where this was the last event, with these bytes of its
+    /// instance's memory.
+    fn turn(&mut self, seen: &Event, memory: &[u8]) -> Move
+        ensures answers { Answers S.does self.old seen.now memory.now result self.new }
+        ensures entries { self.new.entries ≡ self.old.entries }
+        ensures destructors { self.new.destructors ≡ self.old.destructors }
+    {
+        match seen {
+            Event::Enter { func, args, .. } => self.enter(*func, args.as_slice(), memory),
+            Event::Resume { values, .. } => self.resume(values.as_slice(), memory.len()),
+            Event::Realloc { .. } | Event::Grown(_) => self.allocate(seen, memory.len()),
+            Event::Done => self.playing.next_move(),
+            Event::PostReturn { .. } => returns(self.alloc, &[]),
+            Event::Dtor { func, rep, .. } => self.destroy(*func, *rep),
+            Event::Trapped(_) | Event::Ended => Move::Unreachable,
         }
     }
 }
 
 impl<S: Service> SeeingGuest for Served<S> {
-    // Nothing is promised of what it does: what is proved of the machine holds all the same.
-    ghost plays = { λ _ _. ⊤ };
+    ghost plays = { λ g told. Serves S.does g told };
 
     fn next(&mut self, seen: &Event, memory: &[u8]) -> Move {
-        match seen {
-            Event::Enter { func, args, .. } => self.enter(*func, args.as_slice(), memory),
-            Event::Realloc { args, .. } => self.reallocate(args.as_slice(), memory.len()),
-            Event::Resume { values, .. } => self.resume(values.as_slice(), memory.len()),
-            Event::Grown(pages) => self.grown(*pages, memory.len()),
-            Event::Done => self.next_move(),
-            Event::PostReturn { .. } => returns(self.alloc, &[]),
-            Event::Dtor { func, rep, .. } => self.destroy(*func, *rep),
-            Event::Trapped(_) | Event::Ended => Move::Unreachable,
-        }
+        self.turn(seen, memory)
     }
 }

@@ -1,5 +1,9 @@
 //! The moves that write what a host passes.
 
+ghost use Rattle.std.specs.Prelude.{◌≡◌, ◌++◌, List, OnOk};
+ghost use Rattle.cm_machine.specs.cm_machine_model.declared.moves.Move.{Move};
+ghost use Rattle.cm_host.specs.Passing.{AreGrowths, AreWrites};
+
 use cm_host_values::Lowered;
 use cm_machine::{Bump, MAX_MEMORY_SIZE, Move, PAGE_SIZE};
 use cm_types::CoreValue;
@@ -11,11 +15,6 @@ pub(crate) const ALL_ROOM: Bump = Bump {
     next: 0,
     end: MAX_MEMORY_SIZE as u32,
 };
-
-/// Returns these core values; stops where there is no memory for the move.
-pub(crate) fn returns(alloc: Global, values: &[CoreValue]) -> Move {
-    Move::ret(alloc, values).unwrap_or(Move::Unreachable)
-}
 
 /// How many pages more a memory of so many bytes needs to reach an end; as many as can be asked for
 /// where they are more.
@@ -29,7 +28,10 @@ pub(crate) fn push_growth(
     moves: &mut VecDeque<Move>,
     memory: usize,
     end: usize,
-) -> Result<(), AllocError> {
+) -> Result<(), AllocError>
+    ensures { OnOk result ((ms : List Move) × AreGrowths ms
+        × (moves.new.items ≡ moves.old.items ++ ms)) }
+{
     let pages = missing_pages(memory, end);
     if pages > 0 {
         moves.push_back(Move::Grow { pages })?;
@@ -43,7 +45,10 @@ pub(crate) fn push_writes(
     moves: &mut VecDeque<Move>,
     lowered: &Lowered,
     memory: usize,
-) -> Result<(), AllocError> {
+) -> Result<(), AllocError>
+    ensures { OnOk result ((ms : List Move) × AreWrites lowered.now.bytes.items ms
+        × (moves.new.items ≡ moves.old.items ++ ms)) }
+{
     if lowered.bytes.is_empty() {
         return Ok(());
     }

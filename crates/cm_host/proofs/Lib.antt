@@ -1,0 +1,4 @@
+pub mod Ends
+pub mod Moves
+pub mod Resumed
+pub mod TypesLaws
