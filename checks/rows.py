@@ -92,7 +92,7 @@ def blocks_of(program, family):
         if not line or line.startswith("#") or MARK not in line:
             continue
         row, _, wanted = line.partition(MARK)
-        words = [it.removeprefix("@") for it in row.split(" ")]
+        words = [it.removeprefix("@") for it in re.split("[ ,]", row)]
         cited = [named[it] for it in dict.fromkeys(words) if it in named and it != name_of(row)]
         if name_of(row):
             named[name_of(row)] = (row, wanted)

@@ -33,6 +33,7 @@ DOORS = (
     "cm_stubs",
     "cm_host",
     "cm_tool",
+    "cm_live",
     "cm_hux",
 )
 # rooms that stand behind several doors, each with the first of these

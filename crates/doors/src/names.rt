@@ -61,6 +61,10 @@ pub mod tool {
     pub use cm_tool::{FileFault, Files, ScriptFault, script_bytes, tool};
 }
 
+pub mod live {
+    pub use cm_live::{Answer, LiveFault, Record, Served, Session, Written, serve, write_answer};
+}
+
 pub mod hux {
     pub use cm_hux::{CoreRow, Ending, core_row, core_text, run_hux, show_world};
 }

@@ -1,0 +1,4 @@
+pub mod CallersLaws
+pub mod MirrorLaws
+pub mod RoomLaws
+pub mod TranscriptLaws

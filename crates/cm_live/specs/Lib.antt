@@ -1,0 +1,9 @@
+pub mod Callers
+pub mod Kept
+pub mod Mirrors
+pub mod Playing
+pub mod Rooms
+pub mod Sessions
+pub mod Statements
+pub mod Tallies
+pub mod Transcripts

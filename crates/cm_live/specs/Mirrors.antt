@@ -1,0 +1,67 @@
+-- What becomes of the memories of a set by a move, for a client that mirrors them (CanonicalABI.md,
+-- "Storing"; what a client is told is this project's own choice).
+use Rattle.std.specs.Prelude.{◌≡◌, ℕ, ⊤, Some, length, slice_index}
+use Rattle.std.specs.Option.{option_map}
+use Rattle.cm_abi_model.specs.Overlap.{IsInOne}
+use Rattle.cm_machine.specs.cm_machine_model.declared.event.Event.{Event}
+use Rattle.cm_machine.specs.cm_machine_model.declared.event.Event.TheVariants as event
+use Rattle.cm_machine.specs.cm_machine_model.declared.moves.Move.{Move}
+use Rattle.cm_machine.specs.cm_machine_model.declared.moves.Move.TheVariants as move
+use Rattle.cm_machine.specs.cm_machine_model.Memories.{memory_at}
+use Rattle.cm_machine.specs.cm_machine_model.Stack.{actor, top_of}
+use Rattle.cm_machine.specs.cm_machine_model.State.{State}
+use Rattle.cm_machine.specs.cm_machine_set.Running.{RunningSet}
+use Rattle.cm_machine.specs.cm_machine_told.MemoryChanges.{GrowsExactly, OthersStay, SameMemories}
+use Rattle.cm_machine.specs.cm_machine_told.MemoryChanges.{WritesExactly}
+use Rattle.cm_tool_script.specs.declared.statement.Statement.{Statement}
+use Rattle.cm_tool_script.specs.declared.statement.Statement.TheVariants as statement
+use Rattle.cm_live.specs.declared.answer.Answer.{Answer}
+use Rattle.cm_live.specs.declared.answer.Answer.TheVariants as answer
+use Rattle.cm_live.specs.declared.answer.Written.{Written}
+
+-- Of this instance's memory bytes may change, and nothing else of any memory: none grows.
+pub record OnlyBytesChange (old : State) (i : ℕ) (new : State) : Type 0 where
+  pub others : OthersStay old i new
+  pub same_length : length (memory_at new.memories i) ≡ length (memory_at old.memories i)
+
+-- Of an instance's memory bytes may change inside these regions, and nothing else of any memory.
+pub record OnlyRegionsChange (old : State) (w : Written) (new : State) : Type 0 where
+  pub only : OnlyBytesChange old w.instance new
+  pub outside : (a : ℕ) → (IsInOne w.regions.items a → ⊥)
+      → slice_index (memory_at new.memories w.instance) a
+      ≡ slice_index (memory_at old.memories w.instance) a
+
+-- What becomes of memories by a move of this instance with this event, where what was written is
+-- told so: its own write or growth changes the memory of the instance that moves, and of no other;
+-- where a body begins, bytes change inside the regions that are told alone; where a result may have
+-- been handed over, bytes change of no memory but the one that is told; else none changes.
+abbrev pub ChangesAreTold : State → ℕ → Move → Event → Written → State → Type 0
+ChangesAreTold old i (move.Write at bytes) event.Done told new =
+    WritesExactly (memory_at old.memories i) at bytes.items (memory_at new.memories i)
+    × OthersStay old i new
+ChangesAreTold old i (move.Grow pages) (event.Grown (Some before)) told new =
+    GrowsExactly (memory_at old.memories i) pages (memory_at new.memories i)
+    × OthersStay old i new
+ChangesAreTold old i (move.Call func args) (event.Enter j body values) told new =
+    OnlyRegionsChange old told new
+ChangesAreTold old i (move.Return values) (event.Enter j body args) told new =
+    OnlyRegionsChange old told new
+ChangesAreTold old i (move.Return values) (event.PostReturn j func args) told new =
+    OnlyBytesChange old told.instance new
+ChangesAreTold old i (move.Return values) (event.Resume j back) told new =
+    OnlyBytesChange old told.instance new
+ChangesAreTold old i m e told new = SameMemories old new
+
+-- The answer to a move tells what was written, beside the memory of the instance that moved.
+abbrev pub TellsWhose : State → Move → Answer → State → Type 0
+TellsWhose old m answer.Ready new = ⊤
+TellsWhose old m (answer.Told written e) new =
+    ∥ ((i : ℕ) × (option_map actor (top_of old.stack) ≡ Some i)
+    × ChangesAreTold old i m e written new) ∥₁
+
+-- The answer to a statement does: a root call begins with the memories as they were.
+abbrev pub KeepsMirrors : RunningSet → Statement → Answer → RunningSet → Type 0
+KeepsMirrors old (statement.Pages pages) a new = ⊤
+KeepsMirrors old (statement.Guest i) a new = ⊤
+KeepsMirrors old (statement.Begin root) a new = SameMemories old.state new.state
+KeepsMirrors old (statement.Move m) a new = TellsWhose old.state m a new.state

@@ -1,0 +1,137 @@
+-- What serving does: the lines that were read, what became of each, and what they do to a set, one
+-- after the other (this project's own choice).
+use Rattle.std.specs.Prelude.{◌≡◌, ◌⊎◌, ◌+◌, ◌-◌, ◌<◌, ◌≤◌, ◌^◌, ℕ, ⊤, Bool, true, false, List, []}
+use Rattle.std.specs.Prelude.{◌∷◌, ◌++◌, length, Option, IfSome, Some}
+use Rattle.std.specs.List.{list_any}
+use Rattle.std.specs.Io.BufRead.{take_through, drop_through, ends_with_byte}
+use Rattle.std.specs.Io.KnownBytes.{Consumes, Keeps}
+use Rattle.cm_validate_model.specs.Spaces.{Spaces}
+use Rattle.cm_machine.specs.cm_machine_model.declared.event.Event.TheVariants as event
+use Rattle.cm_machine.specs.cm_machine_set.Running.{RunningSet}
+use Rattle.cm_tool_script.specs.declared.statement.Statement.{Statement}
+use Rattle.cm_tool_script.specs.declared.statement.Statement.TheVariants as statement
+use Rattle.cm_live.specs.declared.answer.Answer.{Answer}
+use Rattle.cm_live.specs.declared.answer.Answer.TheVariants as answer
+use Rattle.cm_live.specs.declared.fault.LiveFault.{LiveFault}
+use Rattle.cm_live.specs.declared.fault.LiveFault.TheVariants as fault
+use Rattle.cm_live.specs.declared.served.Served.{Served}
+use Rattle.cm_live.specs.declared.served.Served.TheVariants as served
+use Rattle.cm_live.specs.Mirrors.{KeepsMirrors}
+use Rattle.cm_live.specs.Statements.{Does, IsRefusedFor}
+
+-- What became of a line: it is no statement, or its statement is refused, each with the reason; or
+-- its statement was done, and answered so.
+pub data Reply : Type 0 where
+  unread : LiveFault → Reply
+  refused : Statement → LiveFault → Reply
+  done : Statement → Answer → Reply
+
+-- A line that was read, with its end, and what became of it.
+pub record ServedLine : Type 0 where
+  pub bytes : List ℕ
+  pub reply : Reply
+
+-- ---- what lines do to a set
+
+-- whether a line has its LF; else the input ends within it
+abbrev pub is_whole : List ℕ → Bool
+is_whole bytes = ends_with_byte 10 bytes
+
+-- why a line is no statement: the input ends within it, or it spells none
+abbrev pub IsOfNoStatement : List ℕ → LiveFault → Type 0
+IsOfNoStatement bytes fault.Cut = is_whole bytes ≡ false
+IsOfNoStatement bytes (fault.Line f) = is_whole bytes ≡ true
+IsOfNoStatement bytes f = ⊥
+
+-- why a statement is not recorded
+abbrev pub IsOfNoRecord : Statement → LiveFault → Type 0
+IsOfNoRecord (statement.Pages pages) f = f ≡ fault.Recorded
+IsOfNoRecord s f = ⊥
+
+-- A line does this to a set of what is linked: what its statement does where that is done, and
+-- the answer tells whose memory was written; and nothing where it is refused.
+abbrev pub LineDoes : List Spaces → RunningSet → List ℕ → Reply → RunningSet → Type 0
+LineDoes linked old bytes (unread f) new = IsOfNoStatement bytes f × (new ≡ old)
+LineDoes linked old bytes (refused s f) new =
+    (is_whole bytes ≡ true) × (IsRefusedFor old s f ⊎ IsOfNoRecord s f) × (new ≡ old)
+LineDoes linked old bytes (done s a) new =
+    (is_whole bytes ≡ true) × Does linked old s a new × KeepsMirrors old s a new
+
+-- Lines do this to a set, one after the other, and nothing else is done to it.
+abbrev pub LinesDo : List Spaces → RunningSet → List ServedLine → RunningSet → Type 0
+LinesDo linked old [] new = new ≡ old
+LinesDo linked old (l ∷ ls) new =
+    (mid : RunningSet) × LineDoes linked old l.bytes l.reply mid × LinesDo linked mid ls new
+
+-- ---- moves and traps
+
+-- how many moves were made
+abbrev pub moves_of : Reply → ℕ
+moves_of (done (statement.Move m) a) = 1
+moves_of r = 0
+
+abbrev pub moves_in : List ServedLine → ℕ
+moves_in [] = 0
+moves_in (l ∷ ls) = moves_of l.reply + moves_in ls
+
+-- whether a root call trapped
+abbrev pub is_trap : Reply → Bool
+is_trap (done s (answer.Told written (event.Trapped t))) = true
+is_trap r = false
+
+abbrev pub has_trapped : List ServedLine → Bool
+has_trapped ls = list_any (λ (l : ServedLine). is_trap l.reply) ls
+
+-- Behind so many moves, and before each line, fewer than the limit were made.
+abbrev pub StayBelow : ℕ → ℕ → List ServedLine → Type 0
+StayBelow made limit [] = ⊤
+StayBelow made limit (l ∷ ls) = (made < limit) × StayBelow (made + moves_of l.reply) limit ls
+
+-- ---- what was read
+
+-- Where the bytes that a reader has are known, this is the next line of them, up to and with its
+-- LF, or to their end.
+abbrev pub IsNextLine : Option (List ℕ) → List ℕ → Option (List ℕ) → Type 0
+IsNextLine old line new = (0 < length line)
+    × IfSome old (λ bytes. (line ≡ take_through 10 bytes) × (new ≡ Some (drop_through 10 bytes)))
+
+-- Where the bytes that a reader has are known, there were no more.
+abbrev pub IsUsedUp : Option (List ℕ) → Option (List ℕ) → Type 0
+IsUsedUp old new = IfSome old (λ bytes. (bytes ≡ []) × (new ≡ Some []))
+
+-- These lines were read, one behind the other, and no other bytes.
+abbrev pub AreRead : Option (List ℕ) → List ServedLine → Option (List ℕ) → Type 0
+AreRead old [] new = Keeps old new
+AreRead old (l ∷ ls) new =
+    (mid : Option (List ℕ)) × IsNextLine old l.bytes mid × AreRead mid ls new
+
+-- These lines were read, and behind them maybe a part of one, where reading failed.
+pub record AreReadAtLeast (old : Option (List ℕ)) (ls : List ServedLine) (new : Option (List ℕ))
+    : Type 0 where
+  pub mid : Option (List ℕ)
+  pub part : List ℕ
+  pub lines : AreRead old ls mid
+  pub behind : Consumes mid new part
+
+-- ---- the whole
+
+-- These lines lead from one set to another, and at most so many moves are in them: behind that many
+-- no line is read.
+pub record Leads (linked : List Spaces) (old : RunningSet) (limit : ℕ) (ls : List ServedLine)
+    (new : RunningSet) : Type 0 where
+  pub does : LinesDo linked old ls new
+  pub few : moves_in ls ≤ limit
+  pub below : StayBelow 0 limit ls
+
+-- The input is used up, unless so many lines were read that 64 bits count no more.
+abbrev pub IsAtEndOf : Option (List ℕ) → List ServedLine → Option (List ℕ) → Type 0
+IsAtEndOf old ls new = length ls < 2 ^ 64 - 1 → IfSome old (λ _. new ≡ Some [])
+
+-- Serving ended so behind these lines: with so many moves; or before that with the input, after a
+-- root call that trapped or with none.
+abbrev pub Ends : Served → ℕ → Option (List ℕ) → List ServedLine → Option (List ℕ) → Type 0
+Ends served.Limit limit old ls new = moves_in ls ≡ limit
+Ends served.Trapped limit old ls new =
+    (moves_in ls < limit) × (has_trapped ls ≡ true) × IsAtEndOf old ls new
+Ends served.Ended limit old ls new =
+    (moves_in ls < limit) × (has_trapped ls ≡ false) × IsAtEndOf old ls new

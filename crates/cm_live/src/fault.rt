@@ -1,0 +1,63 @@
+//! Why a line is refused.
+
+ghost use Rattle.std.specs.Prelude.{◌≡◌};
+ghost use Rattle.cm_live.specs.declared.fault.LiveFault.TheVariants as fault;
+
+use cm_machine::Misuse;
+use cm_tool_script::{LineFault, form_of};
+use std::io::Write;
+use std::{fmt, io, str};
+
+/// Why a line is refused. Nothing has changed then.
+#[derive(Clone, Copy)]
+pub enum LiveFault {
+    /// The line is no statement.
+    Line(LineFault),
+    /// The input ends within the line.
+    Cut,
+    /// A `guest`, which is of scripts alone: a move is of the instance that acts.
+    Guest,
+    /// A `pages` behind the first root call, where moves are recorded: a script has one.
+    Recorded,
+    /// The machine does not make the set, begin the root call or make the move.
+    Misuse(Misuse),
+    /// There was no memory.
+    Memory,
+}
+
+impl From<LineFault> for LiveFault {
+    ghost from_gives = { λ e f. f ≡ fault.Line e };
+
+    fn from(fault: LineFault) -> LiveFault {
+        LiveFault::Line(fault)
+    }
+}
+
+impl fmt::Display for LiveFault {
+    fn fmt<W: fmt::Write>(&self, f: &mut fmt::Formatter<W>) -> fmt::Result {
+        match self {
+            LiveFault::Line(fault) => write!(f, "{fault}"),
+            LiveFault::Cut => f.write_str("the input ends within a line"),
+            LiveFault::Guest => f.write_str("guest is for scripts: a move is of who acts"),
+            LiveFault::Recorded => f.write_str("pages stands once in a script that is recorded"),
+            LiveFault::Misuse(misuse) => write!(f, "{misuse}"),
+            LiveFault::Memory => f.write_str("no memory"),
+        }
+    }
+}
+
+/// Writes why a line is refused; of one that is no statement also what was expected.
+pub(crate) fn write_refusal<W: Write>(
+    writer: &mut W,
+    fault: LiveFault,
+    line: &[u8],
+) -> io::Result<()> {
+    match fault {
+        LiveFault::Line(LineFault::NotAStatement | LineFault::BadHex) => {
+            let text = str::from_utf8(line).unwrap_or("");
+            let form = form_of(text.trim_end());
+            writeln!(writer, "error: {fault}: expected {form}")
+        }
+        _ => writeln!(writer, "error: {fault}"),
+    }
+}

@@ -1,0 +1,95 @@
+//! A set that is played, and what goes on in it.
+
+ghost use Rattle.std.specs.Prelude.{◌≡◌, ◌⊎◌, [], IfErr, IfOk, OnErr, OnOk};
+ghost use Rattle.std.specs.Option.{option_map};
+ghost use Rattle.cm_machine.specs.cm_machine_model.declared.event.Event.TheVariants as event;
+ghost use Rattle.cm_machine.specs.cm_machine_model.History.{begins, moves};
+ghost use Rattle.cm_machine.specs.cm_machine_model.Stack.{actor, top_of};
+ghost use Rattle.cm_machine.specs.cm_machine_set.Running.{GoesOnFrom, IsNew};
+ghost use Rattle.cm_machine.specs.cm_machine_told.MemoryChanges.{SameMemories};
+ghost use Rattle.cm_match.specs.Linked.{set_in};
+ghost use Rattle.cm_live.specs.Mirrors.{TellsWhose};
+ghost use Rattle.cm_live.specs.Playing.{IsPlayed};
+ghost use Rattle.cm_live.specs.Statements.{IsOfNoMove, IsOfNoRoot, TellsOf};
+
+use crate::answer::Answer;
+use crate::fault::LiveFault;
+use crate::goings_on::GoingsOn;
+use crate::results::ResultPlaces;
+use cm_abi_model::laws::denotations_are_unique;
+use cm_machine::laws::headline;
+use cm_machine::{Linked, Misuse, Move, Set};
+use std::alloc::Global;
+
+/// A set that is played, and what goes on in it by moves and events.
+#[derive(Drop)]
+pub(crate) struct Playing {
+    set: Set,
+    going: GoingsOn,
+    ghost played: { ∥ IsPlayed set going ∥₁ },
+}
+
+impl Playing {
+    /// A set of what is linked, whose instances have so many pages of memory.
+    pub(crate) fn new(alloc: Global, linked: &Linked<'_>, pages: &[u32]) -> Result<Playing, Misuse>
+        ensures new { IfOk result (λ p. IsNew (set_in linked.now) pages.now p.set) }
+        ensures only { IfErr result (λ m. (m ≡ Misuse.BadPages) ⊎ (m ≡ Misuse.Memory)) }
+    {
+        let set = Set::new(alloc, linked, pages)?;
+        let going = GoingsOn::new(alloc);
+        Ok(Playing { set, going })
+    }
+
+    /// The instance whose move is next, or `None` where no call is on the stack.
+    pub(crate) fn acting(&self) -> Option<u32> {
+        self.set.acting()
+    }
+
+    /// The bytes of an instance's memory, or `None` where there is no such instance.
+    pub(crate) fn memory(&self, instance: u32) -> Option<&[u8]> {
+        self.set.memory(instance)
+    }
+
+    /// Begins a root call.
+    pub(crate) fn begin(&mut self, root: u32) -> Result<Answer, LiveFault>
+        ensures begins { IfOk result (λ a. TellsOf a (λ e. (e ≡ event.Resume root [])
+            × GoesOnFrom self.old.set (begins root) e self.new.set)) }
+        ensures memories { OnOk result (SameMemories self.old.set.state self.new.set.state) }
+        ensures refused { IfErr result (λ f. IsOfNoRoot self.old.set root f) }
+        ensures stays { OnErr result (self.new.set ≡ self.old.set) }
+    {
+        headline();
+        denotations_are_unique();
+        match self.set.begin(root) {
+            Ok(event) => {
+                let written = self.going.nothing_in(root);
+                Ok(Answer::Told { written, event })
+            }
+            Err(misuse) => Err(LiveFault::Misuse(misuse)),
+        }
+    }
+
+    /// Makes a move of the instance that acts.
+    pub(crate) fn step(&mut self, results: &ResultPlaces, made: &Move) -> Result<Answer, LiveFault>
+        ensures moves { IfOk result (λ a. TellsOf a (λ e.
+            GoesOnFrom self.old.set (moves made.now) e self.new.set)) }
+        ensures memories { IfOk result (λ a.
+            TellsWhose self.old.set.state made.now a self.new.set.state) }
+        ensures refused { IfErr result (λ f. IsOfNoMove self.old.set f) }
+        ensures stays { OnErr result (self.new.set ≡ self.old.set) }
+    {
+        headline();
+        denotations_are_unique();
+        let actor = self.set.acting().unwrap_or(0);
+        let Ok(()) = self.going.reserve() else {
+            return Err(LiveFault::Memory);
+        };
+        match self.set.step(made) {
+            Ok(event) => {
+                let written = self.going.go_on(results, actor, made, &event);
+                Ok(Answer::Told { written, event })
+            }
+            Err(misuse) => Err(LiveFault::Misuse(misuse)),
+        }
+    }
+}
