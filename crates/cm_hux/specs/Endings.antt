@@ -14,9 +14,11 @@ ending_status ending.Trapped = 3
 ending_status ending.Unread = 4
 
 -- The exit status of a command that ends by a fault: 2 where the words are no command, 4 where a
--- file cannot be read or standard output not be written, else 1.
+-- file or a stream cannot be read or written, else 1.
 abbrev pub fault_status : Fault → ℕ
 fault_status (fault.Usage text) = 2
 fault_status (fault.Tool f) = tool.fault_status f
+fault_status (fault.Unwritten name) = 4
+fault_status fault.Streams = 4
 fault_status fault.Output = 4
 fault_status _ = 1

@@ -4,8 +4,11 @@ use crate::conforming::conform;
 use crate::core_lines::core_text;
 use crate::ending::Ending;
 use crate::fault::{Fault, report};
+use crate::living::run_live;
 use crate::loading::load_file;
 use crate::playing::{run_link, run_play};
+use crate::streams::Streams;
+use crate::stubbing::run_stub;
 use cm_hux_show::{ShowFault, show_world};
 use cm_hux_words::{Answer, Request, WordsFault};
 use cm_tool::{Asked, Fault as ToolFault, Files, signature};
@@ -23,14 +26,15 @@ use std::io::Write;
 /// that begins with `error: `; of `play`, also each drive that is refused or reaches its limit has
 /// such a line, and the later ones run. Words that ask for help or the version have a text printed,
 /// and words that are no command one on standard error.
-pub fn run_hux<F: Files, O: Write, E: Write>(
+pub fn run_hux<F: Files, S: Streams, O: Write, E: Write>(
     alloc: Global,
     words: &[String],
     files: &mut F,
+    streams: &mut S,
     out: &mut O,
     err: &mut E,
 ) -> Ending {
-    match run_words(alloc, words, files, out, err) {
+    match run_words(alloc, words, files, streams, out, err) {
         Ok(ending) => ending,
         Err(fault) => {
             report(err, &fault);
@@ -39,25 +43,27 @@ pub fn run_hux<F: Files, O: Write, E: Write>(
     }
 }
 
-fn run_words<'a, F: Files, O: Write, E: Write>(
+fn run_words<'a, F: Files, S: Streams, O: Write, E: Write>(
     alloc: Global,
     words: &'a [String],
     files: &mut F,
+    streams: &mut S,
     out: &mut O,
     err: &mut E,
 ) -> Result<Ending, Fault<'a>> {
     match Answer::read(alloc, words) {
-        Ok(Answer::Run(request)) => run(alloc, request, files, out, err),
+        Ok(Answer::Run(request)) => run(alloc, request, files, streams, out, err),
         Ok(Answer::Text(text)) => print(out, text.as_str()),
         Err(WordsFault::NoCommand(text)) => Err(Fault::Usage(text)),
         Err(WordsFault::Memory) => Err(Fault::Memory),
     }
 }
 
-fn run<'a, F: Files, O: Write, E: Write>(
+fn run<'a, F: Files, S: Streams, O: Write, E: Write>(
     alloc: Global,
     request: Request<'a>,
     files: &mut F,
+    streams: &mut S,
     out: &mut O,
     err: &mut E,
 ) -> Result<Ending, Fault<'a>> {
@@ -74,6 +80,15 @@ fn run<'a, F: Files, O: Write, E: Write>(
             script,
             files: names,
         } => run_play(alloc, script, names.as_slice(), files, out, err),
+        Request::Live {
+            files: names,
+            choices,
+        } => run_live(alloc, names.as_slice(), choices, files, streams, out),
+        Request::Stub {
+            files: names,
+            caller,
+            out: name,
+        } => run_stub(alloc, names.as_slice(), caller, name, files, streams),
     }
 }
 

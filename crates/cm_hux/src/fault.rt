@@ -9,6 +9,7 @@ ghost use Rattle.cm_hux.specs.declared.fault.Fault.TheVariants as fault;
 use crate::ending::Ending;
 use cm_binary_model::LimitFault;
 use cm_shims::{FitFault, PlainFault};
+use cm_stubs::StubFault;
 use cm_tool::{Fault as ToolFault, FileReason};
 use cm_tool_text::Escaped;
 use std::alloc::{AllocError, AllocFailed};
@@ -26,6 +27,14 @@ pub enum Fault<'a> {
     Limit { name: &'a str, fault: LimitFault },
     /// What the shims of a file want of its functions and types does not hold.
     Unmet { name: &'a str, fault: FitFault },
+    /// No stub is made.
+    Stub(StubFault),
+    /// A file cannot be written.
+    Unwritten { name: &'a str },
+    /// What `live` reads from or writes to failed, or there was no memory for a line.
+    Streams,
+    /// So many moves were made, which are the most that `live` was to make.
+    Moves { limit: u64 },
     /// What `component_tool` says alike.
     Tool(ToolFault<'a>),
     /// There was no memory.
@@ -36,16 +45,19 @@ pub enum Fault<'a> {
 
 impl Fault<'_> {
     /// How a command ends that ends by this fault: `Usage` where the words are no command, `Unread`
-    /// where a file cannot be read or standard output not be written, else `Refused`.
+    /// where a file or a stream cannot be read or written, else `Refused`.
     pub fn ending(&self) -> Ending
         ensures { ending_status result ≡ fault_status self.now }
     {
         match self {
             Fault::Usage(_) => Ending::Usage,
-            Fault::Plain { .. } | Fault::Limit { .. } | Fault::Unmet { .. } | Fault::Memory => {
-                Ending::Refused
-            }
-            Fault::Output => Ending::Unread,
+            Fault::Plain { .. }
+            | Fault::Limit { .. }
+            | Fault::Unmet { .. }
+            | Fault::Stub(_)
+            | Fault::Moves { .. }
+            | Fault::Memory => Ending::Refused,
+            Fault::Unwritten { .. } | Fault::Streams | Fault::Output => Ending::Unread,
             Fault::Tool(fault) => ending_of_tool(fault),
         }
     }
@@ -121,6 +133,14 @@ impl fmt::Display for Fault<'_> {
             Fault::Plain { name, fault } => write!(f, "{}: {fault}", Escaped(name)),
             Fault::Limit { name, fault } => write!(f, "{}: {fault}", Escaped(name)),
             Fault::Unmet { name, fault } => write!(f, "{}: {fault}", Escaped(name)),
+            Fault::Stub(fault) => write!(f, "{fault}"),
+            Fault::Unwritten { name } => {
+                write!(f, "{}: Write: it cannot be written", Escaped(name))
+            }
+            Fault::Streams => f.write_str(
+                "standard input, standard output or the record failed, or no memory for a line",
+            ),
+            Fault::Moves { limit } => write!(f, "limit: {limit} moves were made"),
             Fault::Tool(fault) => write!(f, "{fault}"),
             Fault::Memory => write!(f, "{}", ToolFault::Memory),
             Fault::Output => write!(f, "{}", ToolFault::Output),

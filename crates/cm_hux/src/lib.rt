@@ -9,8 +9,11 @@ mod core_lines;
 mod core_rows;
 mod ending;
 mod fault;
+mod living;
 mod loading;
 mod playing;
+mod streams;
+mod stubbing;
 
 pub use cm_hux_show::show_world;
 pub use cm_tool::{Disk, Fault as ToolFault, FileFault, Files, Usage, words_of};
@@ -20,3 +23,4 @@ pub use core_rows::{CoreRow, core_row};
 pub use ending::Ending;
 pub use fault::{Fault, report};
 pub use loading::{Loaded, load_file};
+pub use streams::{DiskStreams, Streams};

@@ -8,6 +8,7 @@ ghost use Rattle.cm_shims.specs.Fitting.{AllHold};
 
 use crate::fault::Fault;
 use cm_binary_forms::DecodeFault;
+use cm_binary_model::Component;
 use cm_shims::{Place, ShimFault, Shimmed, fits, read};
 use cm_tool::{
     BadFile, Checked, Fault as ToolFault, FileReason, Files, LinkFault, Linked, MAX_COMPONENTS,
@@ -157,6 +158,21 @@ pub(crate) fn load_files<'a, F: Files>(
 }
 
 impl<'a> LoadedFiles<'a> {
+    /// The files, in order.
+    pub(crate) fn files(&self) -> &[Loaded<'a>] {
+        &self.loaded
+    }
+
+    /// The components of the files, in order.
+    pub(crate) fn into_components(self, alloc: Global) -> Result<Vec<Component>, AllocError> {
+        let mut components = Vec::with_capacity(alloc, self.loaded.len())?;
+        for file in self.loaded {
+            let shimmed = file.shimmed;
+            components.push(shimmed.component)?;
+        }
+        Ok(components)
+    }
+
     /// The linked set of the components, which borrows them. They are checked in order, and then
     /// linked; the fault is the first in the order of the files, of which `unread` is that of the
     /// last, or else that of the links.

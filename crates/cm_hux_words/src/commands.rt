@@ -11,7 +11,7 @@ const ABOUT_ALL: &str = "A file named - is standard input. A file may have shims
 that rename what they are given, which tools write for each exported interface.
 
 Exit status: 0 done, 1 something was refused, 2 the words are no command, 3 a drive trapped,
-4 a file cannot be read or standard output not be written.
+4 a file cannot be read or written, or standard output not be written.
 
 Example:
   hux check first.wasm second.wasm";
@@ -81,6 +81,28 @@ prints
   ended",
 };
 
+const LIVE: Said = Said {
+    about: "Links components and plays them line by line: an engine makes the moves",
+    example: "Prints what an engine needs to instantiate the core modules, and then ready. Then it
+reads statements, a line each, and answers each: what was written into memories, and an event.
+
+Example:
+  hux live provider.wasm user.wasm
+prints, to the lines begin 1 and call 0 i32:41,
+  resume 1
+  enter 0 0 i32:41",
+};
+
+const STUB: Said = Said {
+    about: "Writes a component that stands in for a host",
+    example: "It exports what the files import, or with --caller imports what the last one exports.
+
+Example:
+  hux stub command.wasm -o host.wasm
+  hux stub --caller command.wasm -o caller.wasm
+  hux link host.wasm command.wasm caller.wasm",
+};
+
 /// The program with all its commands.
 pub(crate) fn program<'a>(alloc: Global) -> Result<Command<'a>, AllocError> {
     let hux = Command::new(alloc, "hux")
@@ -95,7 +117,9 @@ pub(crate) fn program<'a>(alloc: Global) -> Result<Command<'a>, AllocError> {
     let hux = add(hux, on_file(alloc, "core"), &CORE)?;
     let hux = add(hux, conform(alloc), &CONFORM)?;
     let hux = add(hux, on_files(alloc, "link"), &LINK)?;
-    add(hux, play(alloc), &PLAY)
+    let hux = add(hux, play(alloc), &PLAY)?;
+    let hux = add(hux, live(alloc), &LIVE)?;
+    add(hux, stub(alloc), &STUB)
 }
 
 /// The program with one command more.
@@ -137,6 +161,33 @@ fn conform<'a>(alloc: Global) -> Result<Command<'a>, AllocError> {
 fn play<'a>(alloc: Global) -> Result<Command<'a>, AllocError> {
     let script = option(alloc, "script", "S").help("The file of the script");
     on_files(alloc, "play")?.arg(script)
+}
+
+fn live<'a>(alloc: Global) -> Result<Command<'a>, AllocError> {
+    let record = choice(alloc, "record", "SCRIPT").help("Writes the moves as a script for play");
+    let limit = choice(alloc, "limit", "N").help("Ends after so many moves");
+    let pages = choice(alloc, "pages", "N,N,..").help(
+        "The pages of each component's memory; else what its core modules declare",
+    );
+    let files = on_files(alloc, "live")?;
+    files.arg(record)?.arg(limit)?.arg(pages)
+}
+
+fn stub<'a>(alloc: Global) -> Result<Command<'a>, AllocError> {
+    let out = choice(alloc, "out", "OUT")
+        .short('o')
+        .help("The file that is written")
+        .required(true);
+    let caller = Arg::new(alloc, "caller")
+        .long("caller")
+        .help("A component that calls")
+        .action(ArgAction::SetTrue);
+    on_files(alloc, "stub")?.arg(out)?.arg(caller)
+}
+
+/// An option with a value, which may be given once.
+fn choice<'a>(alloc: Global, name: &'a str, value: &'a str) -> Arg<'a> {
+    Arg::new(alloc, name).long(name).value_name(value)
 }
 
 /// An option with a value, which is given once.

@@ -35,6 +35,25 @@ pub enum Request<'a> {
         script: &'a str,
         files: Vec<&'a str>,
     },
+    /// `live FILE.. [--record SCRIPT] [--limit N] [--pages N,N,..]`
+    Live {
+        files: Vec<&'a str>,
+        choices: LiveChoices<'a>,
+    },
+    /// `stub FILE.. -o OUT`, or `stub --caller FILE.. -o OUT`
+    Stub {
+        files: Vec<&'a str>,
+        caller: bool,
+        out: &'a str,
+    },
+}
+
+/// What may be said of `live`: the words behind its options.
+#[derive(Clone, Copy, Drop)]
+pub struct LiveChoices<'a> {
+    pub record: Option<&'a str>,
+    pub limit: Option<&'a str>,
+    pub pages: Option<&'a str>,
 }
 
 /// What words ask for.
@@ -107,6 +126,8 @@ fn request_of<'a>(alloc: Global, matches: &ArgMatches<'a>) -> Result<Request<'a>
             Ok(Request::Link { files })
         }
         Some(("play", found)) => play_of(alloc, found),
+        Some(("live", found)) => live_of(alloc, found),
+        Some(("stub", found)) => stub_of(alloc, found),
         _ => Err(no_command(alloc)),
     }
 }
@@ -122,6 +143,26 @@ fn play_of<'a>(alloc: Global, found: &ArgMatches<'a>) -> Result<Request<'a>, Wor
     let script = value_of(alloc, found, "script")?;
     let files = files_of(alloc, found)?;
     Ok(Request::Play { script, files })
+}
+
+fn live_of<'a>(alloc: Global, found: &ArgMatches<'a>) -> Result<Request<'a>, WordsFault> {
+    let files = files_of(alloc, found)?;
+    let choices = LiveChoices {
+        record: found.get_str("record"),
+        limit: found.get_str("limit"),
+        pages: found.get_str("pages"),
+    };
+    Ok(Request::Live { files, choices })
+}
+
+fn stub_of<'a>(alloc: Global, found: &ArgMatches<'a>) -> Result<Request<'a>, WordsFault> {
+    let out = value_of(alloc, found, "out")?;
+    let files = files_of(alloc, found)?;
+    Ok(Request::Stub {
+        files,
+        caller: found.get_flag("caller"),
+        out,
+    })
 }
 
 fn no_command(alloc: Global) -> WordsFault {

@@ -1,6 +1,6 @@
 //! The program on the machine that it runs on.
 
-use cm_hux::{Disk, Ending, Fault, ToolFault, Usage, report, run_hux, words_of};
+use cm_hux::{Disk, DiskStreams, Ending, Fault, ToolFault, Usage, report, run_hux, words_of};
 use std::io;
 use std::io::{BufWriter, Input, Write};
 use std::rt::{Env, Files};
@@ -33,6 +33,7 @@ fn run<R: Env + Files + Input + AllocGlobal, O: Write + Drop, E: Write>(
         rt.alloc(),
         words.as_slice(),
         &mut Disk::new(rt),
+        &mut DiskStreams::new(rt),
         &mut out,
         err,
     ))

@@ -1,17 +1,44 @@
 //! Answers rows on `hux`: words, and runs on files in memory.
 #![tactic(auto)]
 
-use cm_hux::run_hux;
+use cm_hux::{Files, Streams, run_hux};
 use cm_rows::{Driver, Line, Pipe, answer_families, word, words_from};
 use cm_rows_files::{MemoryFiles, Program, answer_run};
 use std::alloc::Global;
+use std::collections::VecDeque;
 use std::io;
+use std::io::Write;
 use std::process::ExitCode;
 
 /// The families of rows, a file each.
-const FAMILIES: [&str; 4] = ["commands", "words", "shows", "real"];
+const FAMILIES: [&str; 5] = ["commands", "words", "shows", "real", "programs"];
 
-/// The program of these rows.
+/// An input in memory; what is written to files is let go.
+#[derive(Drop)]
+struct MemoryStreams {
+    input: Vec<u8>,
+}
+
+impl Streams for MemoryStreams {
+    type Reader = VecDeque<u8>;
+
+    type Writer = Vec<u8>;
+
+    fn reader(&mut self, alloc: Global) -> io::Result<VecDeque<u8>> {
+        let mut reader = VecDeque::new(alloc);
+        reader.write_all(&self.input)?;
+        Ok(reader)
+    }
+
+    fn create(&mut self, alloc: Global, name: &str) -> io::Result<Vec<u8>> {
+        match name {
+            "forbidden" => Err(io::Error::from(io::ErrorKind::PermissionDenied)),
+            _ => Ok(Vec::new(alloc)),
+        }
+    }
+}
+
+/// The program of these rows: its input is the file `-`.
 struct Hux;
 
 impl Program for Hux {
@@ -22,7 +49,9 @@ impl Program for Hux {
         out: &mut Pipe,
         err: &mut Vec<u8>,
     ) -> u8 {
-        run_hux(alloc, words, files, out, err).status()
+        let input = files.read(alloc, "-").unwrap_or(Vec::new(alloc));
+        let mut streams = MemoryStreams { input };
+        run_hux(alloc, words, files, &mut streams, out, err).status()
     }
 }
 
