@@ -98,21 +98,26 @@ def lacks_in_words(got, wanted):
 
 def lacks_in_session(got, wanted):
     """Whether the first line of a session's answers that is another one tells that there was no
-    memory, for a line or for what its move wants."""
+    memory, for a line or for what its move wants; or serving ended there by an error."""
+    written = got.removesuffix(" Err")
+    if written != got:
+        return wanted.startswith(written.removeprefix("-"))
     differing = (ours for ours, whole in zip(got.split("\\n"), wanted.split("\\n"))
                  if ours != whole)
-    return next(differing, "") in ("error: no memory", "error: misuse 6: out of memory", "trapped 20")
+    return next(differing, "") in ("error: no memory", "error: misuse 6: out of memory",
+                                   "trapped 20")
 
 
-def lacks_at_one(got, wanted):
-    """Whether one of many servings of the same lines was answered otherwise."""
-    return bool(re.fullmatch(rf"not at \d+, {re.escape(wanted)}", got))
+def lacks_in_servings(got, wanted):
+    """Whether one of many servings of the same lines was answered otherwise, or all of them where
+    the one that they are held to was."""
+    return bool(re.fullmatch(rf"(?:not at \d+, )+{re.escape(wanted)}", got))
 
 
 # What shows the refusal, so that the rows behind it are not judged.
 LAST = (
     lacks_in_move, lacks_in_list, lacks_in_play, lacks_in_check, lacks_in_drive, lacks_in_cuts,
-    lacks_in_text, lacks_in_words, lacks_in_session, lacks_at_one,
+    lacks_in_text, lacks_in_words, lacks_in_session, lacks_in_servings,
 )
 
 
