@@ -1,2 +1,5 @@
 pub mod HexBytesLaws
 pub mod NumberLaws
+pub mod StatementLaws
+pub mod WriteLaws
+pub mod ReadLaws
