@@ -1,4 +1,7 @@
-pub mod CallersLaws
+pub mod BackLaws
+pub mod CallsLaws
+pub mod LineLaws
 pub mod MirrorLaws
 pub mod RoomLaws
+pub mod ShapeLaws
 pub mod TranscriptLaws

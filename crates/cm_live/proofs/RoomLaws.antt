@@ -22,12 +22,17 @@ use Rattle.cm_machine.specs.cm_machine_model.declared.moves.Move.TheVariants as 
 use Rattle.cm_machine.specs.cm_machine_model.Events.{is_last}
 use Rattle.cm_machine.specs.cm_machine_model.State.{State}
 use Rattle.cm_machine.specs.cm_machine_told.Doing.{Asked, Doing, LoweredCall, below, body, destroys, handing, placing, root, tidying, with_answer}
-use Rattle.cm_live.specs.Rooms.{asking_by, older, number_of, rooms_of, with_room}
+use Rattle.cm_live.specs.Rooms.{asking_by, older, rooms_of}
 use Rattle.cm_machine.specs.cm_machine_told.Told.{AsksFor, answers_in, met_at_call, one_answer, realloc_values}
 use Rattle.cm_machine.specs.cm_machine_told.Told.{sent_requests}
 use Rattle.cm_machine.specs.cm_machine_told.Causes.{MayCall}
 use Rattle.cm_live.specs.Rooms.{AllMayCall, AreAsked, IsAsking, asking_after_move, asking_by_event, rooms_after_move, rooms_answered, rooms_left}
-use Rattle.cm_live.specs.Rooms.{AreRoomsOf, IsEntered, rooms_told}
+use Rattle.cm_live.specs.Playing.{calls_of}
+use Rattle.cm_live.specs.Rooms.{rooms_told, told_by_return, with_place}
+use Rattle.cm_live.specs.Told.{entered, result_of, told_by}
+use Rattle.cm_machine.specs.cm_machine_model.declared.event.Event.TheVariants as event
+use Rattle.std.specs.declared.alloc.Global.{Global}
+use Rattle.std.specs.declared.vec.Vec.{Vec}
 use Rattle.cm_machine.specs.cm_machine_told.Answers.{Traps}
 use Rattle.cm_machine.specs.cm_machine_told.Asks.{AsksAt}
 use Rattle.cm_machine.specs.cm_machine_told.Entries.{Enters}
@@ -194,6 +199,44 @@ item_at rs n r e =
     same_Some r (get_or rs n r) (sym e ∙ slice_get-get_or rs n r w) in
     take-suc rs n r w ∙ ap (λ (x : Request). take n rs ++ x ∷ []) (sym s)
 
+-- what was asked is a beginning of these requests, whatever the last answer before each
+abbrev pub AsksLike : List Request → List Asked → Type 0
+AsksLike rs [] = ⊤
+AsksLike rs (a ∷ earlier) =
+    AsksLike rs earlier
+    × ((r : Request) × (last : ℕ) × (slice_get rs (length earlier) ≡ Some r)
+    × (a.request ≡ realloc_values last r))
+
+pub like_first : (rs : List Request) (asked : List Asked) → AsksFor rs [] asked
+    → AsksLike rs asked
+like_first rs [] h = tt
+like_first rs (a ∷ earlier) h = (
+  like_first rs earlier h.0,
+  (
+    h.1.0,
+    last_answer ([] ++ answers_in earlier),
+    subst (λ (n : ℕ). slice_get rs n ≡ Some h.1.0) (omega arith) h.1.1,
+    h.1.2,
+  ),
+)
+
+pub like_behind : (q : Request) (rs : List Request) (at : ℕ) (asked : List Asked)
+    → AsksFor (q ∷ rs) (at ∷ []) asked → AsksLike rs asked
+like_behind q rs at [] h = tt
+like_behind q rs at (a ∷ earlier) h =
+    let same : length (at ∷ []) + length earlier ≡ suc (length earlier) = omega arith in
+    let there : slice_get (q ∷ rs) (suc (length earlier)) ≡ Some h.1.0 =
+    subst (λ (n : ℕ). slice_get (q ∷ rs) n ≡ Some h.1.0) same h.1.1 in (
+      like_behind q rs at earlier h.0,
+      (h.1.0, last_answer (at ∷ [] ++ answers_in earlier), there, h.1.2),
+    )
+
+asked_within : (rs : List Request) (asked : List Asked) → AsksLike rs asked
+    → length asked ≤ length rs
+asked_within rs [] h = omega arith
+asked_within rs (a ∷ earlier) h =
+    let w = slice_get_within rs (length earlier) h.1.0 h.1.2 in omega (arith, w)
+
 -- what allocators were asked for, all of it answered
 abbrev AreAnswered : List Asked → Type 0
 AreAnswered asked = length (answers_in asked) ≡ length asked
@@ -239,19 +282,30 @@ cover_one rs a earlier r last (Some at) ch is there asks all k =
     (y ∷ (if back then older (rooms_of earlier) else rooms_of earlier)))
     room c)
 
-pub covers : (rs : List Request) (asked : List Asked) → AreChained rs → AsksFor rs [] asked
+covers : (rs : List Request) (asked : List Asked) → AreChained rs → AsksLike rs asked
     → AreAnswered asked
     → Cover (regions_of (take (length asked) rs) (answers_in asked)) (rooms_of asked)
 covers rs [] ch h all = record { all = λ a w. absurd w; but_last = λ a w. absurd w }
 covers rs (a ∷ earlier) ch h all =
-    let there : slice_get rs (length earlier) ≡ Some h.1.0 =
-    subst (λ (n : ℕ). slice_get rs n ≡ Some h.1.0) (omega arith) h.1.1 in
-    cover_one rs a earlier h.1.0 (last_answer ([] ++ answers_in earlier)) a.answer ch refl there
-    h.1.2 (all ∙ omega arith) (covers rs earlier ch h.0)
+    cover_one rs a earlier h.1.0 h.1.1 a.answer ch refl h.1.2 h.1.3 (all ∙ omega arith)
+    (covers rs earlier ch h.0)
+
+-- where all was asked and answered, no region is left out
+pub cover_whole : (rs : List Request) (asked : List Asked) → AreChained rs → AsksLike rs asked
+    → length (answers_in asked) ≡ length rs
+    → (a : ℕ) → IsInOne (regions_of rs (answers_in asked)) a → IsInOne (rooms_of asked) a
+cover_whole rs asked ch h all a i =
+    let few = few_answers asked in
+    let within = asked_within rs asked h in
+    let long : length asked ≡ length rs = omega (arith, few, within, all) in
+    let full : AreAnswered asked = all ∙ sym long in
+    let whole : take (length asked) rs ≡ rs = ap (λ (n : ℕ). take n rs) long ∙ take-length rs in
+    (covers rs asked ch h full).all a
+    (subst (λ (ys : List Request). IsInOne (regions_of ys (answers_in asked)) a) (sym whole) i)
 
 -- ---- requests
 
-abbrev AllOld : List Request → Type 0
+abbrev pub AllOld : List Request → Type 0
 AllOld [] = ⊤
 AllOld (r ∷ rs) = (0 < r.old_size → r.chained ≡ true) × AllOld rs
 
@@ -267,7 +321,7 @@ old_chain : (align : ℕ) (sizes : List ℕ) → AllOld (chain align sizes)
 old_chain align [] = tt
 old_chain align (size ∷ sizes) = (λ p. absurd (omega arith), old_growths align size sizes)
 
-old_parts : (source target : StringEncoding) (tags : List Bool) (parts : List Part)
+pub old_parts : (source target : StringEncoding) (tags : List Bool) (parts : List Part)
     → AllOld (part_requests source target tags parts)
 old_parts source target tags [] = tt
 old_parts source target tags (part ∷ parts) =
@@ -279,7 +333,7 @@ old_parts source target tags (part ∷ parts) =
     (part_sizes (read_charset source (first_tag tags)) (stored_charset target) part))
     (old_parts source target (tags_behind part tags) parts)
 
-old_at : (rs : List Request) → AllOld rs → AreChained rs
+pub old_at : (rs : List Request) → AllOld rs → AreChained rs
 old_at [] h n r e p = absurd (none-some r e)
 old_at (x ∷ rs) h zero r e p =
     let s = same_Some x r e in
@@ -510,108 +564,138 @@ asks_on plan s i m e ds asking rooms new_asking new_rooms acting is k w =
     subst (AsksOn plan s i m e ds asking rooms new_asking new_rooms) (sym is)
     (asks_by_last (is_last e) plan s i m e ds asking rooms new_asking new_rooms refl k w)
 
--- ---- what is told at an entry
+-- ---- what is told
 
-abbrev RoomsCalled : State → ℕ → List CoreValue → Option CoreFunc → ℕ → List Doing → Event → Type 0
-RoomsCalled s i args f n ds e = IsEntered e
-    → AreRoomsOf (after_call (lowered_call s (Some i) args f n) (Some i) e ds) []
+abbrev ToldCalled : State → ℕ → ℕ → Vec CoreValue Global → Option CoreFunc → List Doing → Event
+    → Type 0
+ToldCalled s i func args f ds e = [] ≡ told_by (move.Call func args) e ds
+    (after_call (lowered_call s (Some i) args.items f (length ds)) (Some i) e ds)
 
-rooms_called : (s : State) (i : ℕ) (args : List CoreValue) (f : Option CoreFunc) (n : ℕ)
-    (ds : List Doing) (e : Event) → AnswersCall i f e → RoomsCalled s i args f n ds e
-rooms_called s i args None n ds e h = absurd h
-rooms_called s i args (Some guest) n ds e h = absurd h
-rooms_called s i args (Some (lowered l)) n ds e (inl r) =
-    subst (RoomsCalled s i args (Some (lowered l)) n ds) (sym r.3) (λ x. absurd x)
-rooms_called s i args (Some (lowered l)) n ds e (inr r) =
-    subst (RoomsCalled s i args (Some (lowered l)) n ds) (sym r.1) (λ x. refl)
-rooms_called s i args (Some (makes r)) n ds e h =
-    subst (RoomsCalled s i args (Some (makes r)) n ds) (sym h.1) (λ x. absurd x)
-rooms_called s i args (Some (drops r d)) n ds e (inl h) =
-    subst (RoomsCalled s i args (Some (drops r d)) n ds) (sym h) (λ x. absurd x)
-rooms_called s i args (Some (drops r d)) n ds e (inr h) =
-    subst (RoomsCalled s i args (Some (drops r d)) n ds) (sym h.3) (λ x. absurd x)
-rooms_called s i args (Some (represents r)) n ds e h =
-    subst (RoomsCalled s i args (Some (represents r)) n ds) (sym h.1) (λ x. absurd x)
+told_called : (s : State) (i func : ℕ) (args : Vec CoreValue Global) (f : Option CoreFunc)
+    (ds : List Doing) (e : Event) → AnswersCall i f e → ToldCalled s i func args f ds e
+told_called s i func args None ds e h = absurd h
+told_called s i func args (Some guest) ds e h = absurd h
+told_called s i func args (Some (lowered l)) ds e (inl r) =
+    subst (ToldCalled s i func args (Some (lowered l)) ds) (sym r.3) refl
+told_called s i func args (Some (lowered l)) ds e (inr r) =
+    subst (ToldCalled s i func args (Some (lowered l)) ds) (sym r.1) refl
+told_called s i func args (Some (makes r)) ds e h =
+    subst (ToldCalled s i func args (Some (makes r)) ds) (sym h.1) refl
+told_called s i func args (Some (drops r d)) ds e (inl h) =
+    subst (ToldCalled s i func args (Some (drops r d)) ds) (sym h) refl
+told_called s i func args (Some (drops r d)) ds e (inr h) =
+    subst (ToldCalled s i func args (Some (drops r d)) ds) (sym h.3) refl
+told_called s i func args (Some (represents r)) ds e h =
+    subst (ToldCalled s i func args (Some (represents r)) ds) (sym h.1) refl
 
-abbrev RoomsReturned : BodyReturn → List CoreValue → List Doing → List Region → Event → Type 0
-RoomsReturned back values ds told e = IsEntered e
-    → AreRoomsOf (after_return (Some back) values e ds) told
+abbrev ToldReturned : BodyReturn → Vec CoreValue Global → List Doing → Option Asking
+    → List Region → Event → Type 0
+ToldReturned back values ds asking rooms e =
+    told_by_return e (rooms_answered asking values.items rooms) (calls_of ds)
+    ≡ told_by (move.Return values) e ds (after_return (Some back) values.items e ds)
 
-rooms_returned : (back : BodyReturn) (values : List CoreValue) (ds : List Doing)
+told_returned : (back : BodyReturn) (values : Vec CoreValue Global) (ds : List Doing)
     (asking : Option Asking) (rooms : List Region) (e : Event) → AnswersReturn ds e
-    → IsAsking ds asking rooms
-    → RoomsReturned back values ds (rooms_answered asking values rooms) e
-rooms_returned back values [] asking rooms e h k = absurd h
-rooms_returned back values (root i ∷ ds) asking rooms e h k =
-    subst (RoomsReturned back values (root i ∷ ds) (rooms_answered asking values rooms)) (sym h)
-    (λ x. absurd x)
-rooms_returned back values (placing x asked ∷ ds) asking rooms e (inl r) k =
-    subst (RoomsReturned back values (placing x asked ∷ ds) (rooms_answered asking values rooms))
-    (sym r.3) (λ y. absurd y)
-rooms_returned back values (placing x asked ∷ ds) asking rooms e (inr r) k =
-    subst (RoomsReturned back values (placing x asked ∷ ds) (rooms_answered asking values rooms))
-    (sym r.1) (λ y. kept_by_answer values asked asking rooms k)
-rooms_returned back values (body x asked ∷ ds) asking rooms e (inl r) k =
-    subst (RoomsReturned back values (body x asked ∷ ds) (rooms_answered asking values rooms))
-    (sym r.3) (λ y. absurd y)
-rooms_returned back values (body x asked ∷ ds) asking rooms e (inr (inl r)) k =
-    subst (RoomsReturned back values (body x asked ∷ ds) (rooms_answered asking values rooms))
-    (sym r.3) (λ y. absurd y)
-rooms_returned back values (body x asked ∷ ds) asking rooms e (inr (inr r)) k =
-    subst (RoomsReturned back values (body x asked ∷ ds) (rooms_answered asking values rooms))
-    (sym r.1.1) (λ y. absurd y)
-rooms_returned back values (handing x asked b more ∷ ds) asking rooms e (inl r) k =
-    subst
-    (RoomsReturned back values (handing x asked b more ∷ ds) (rooms_answered asking values rooms))
-    (sym r.3) (λ y. absurd y)
-rooms_returned back values (handing x asked b more ∷ ds) asking rooms e (inr (inl r)) k =
-    subst
-    (RoomsReturned back values (handing x asked b more ∷ ds) (rooms_answered asking values rooms))
-    (sym r.3) (λ y. absurd y)
-rooms_returned back values (handing x asked b more ∷ ds) asking rooms e (inr (inr r)) k =
-    subst
-    (RoomsReturned back values (handing x asked b more ∷ ds) (rooms_answered asking values rooms))
-    (sym r.1.1) (λ y. absurd y)
-rooms_returned back values (tidying x asked b more ∷ ds) asking rooms e h k =
-    subst
-    (RoomsReturned back values (tidying x asked b more ∷ ds) (rooms_answered asking values rooms))
-    (sym h.1) (λ y. absurd y)
-rooms_returned back values (destroys dropper i ∷ ds) asking rooms e h k =
-    subst (RoomsReturned back values (destroys dropper i ∷ ds) (rooms_answered asking values rooms))
-    (sym h) (λ y. absurd y)
+    → IsAsking ds asking rooms → ToldReturned back values ds asking rooms e
+told_returned back values [] asking rooms e h k = absurd h
+told_returned back values (root i ∷ ds) asking rooms e h k =
+    subst (ToldReturned back values (root i ∷ ds) asking rooms) (sym h) refl
+told_returned back values (placing x asked ∷ ds) asking rooms e (inl r) k =
+    subst (ToldReturned back values (placing x asked ∷ ds) asking rooms) (sym r.3) refl
+told_returned back values (placing x asked ∷ ds) asking rooms e (inr r) k =
+    subst (ToldReturned back values (placing x asked ∷ ds) asking rooms) (sym r.1)
+    (kept_by_answer values.items asked asking rooms k)
+told_returned back values (body x asked ∷ ds) asking rooms e (inl r) k =
+    subst (ToldReturned back values (body x asked ∷ ds) asking rooms) (sym r.3) refl
+told_returned back values (body x asked ∷ ds) asking rooms e (inr (inl r)) k =
+    subst (ToldReturned back values (body x asked ∷ ds) asking rooms) (sym r.3)
+    (ap (with_place (result_of x)) (none_there values.items asking rooms k))
+told_returned back values (body x asked ∷ ds) asking rooms e (inr (inr r)) k =
+    subst (ToldReturned back values (body x asked ∷ ds) asking rooms) (sym r.1.1)
+    (ap (with_place (result_of x)) (none_there values.items asking rooms k))
+told_returned back values (handing x asked b more ∷ ds) asking rooms e (inl r) k =
+    subst (ToldReturned back values (handing x asked b more ∷ ds) asking rooms) (sym r.3) refl
+told_returned back values (handing x asked b more ∷ ds) asking rooms e (inr (inl r)) k =
+    subst (ToldReturned back values (handing x asked b more ∷ ds) asking rooms) (sym r.3)
+    (ap (with_place (result_of x)) (kept_by_answer values.items more asking rooms k))
+told_returned back values (handing x asked b more ∷ ds) asking rooms e (inr (inr r)) k =
+    subst (ToldReturned back values (handing x asked b more ∷ ds) asking rooms) (sym r.1.1)
+    (ap (with_place (result_of x)) (kept_by_answer values.items more asking rooms k))
+told_returned back values (tidying x asked b more ∷ ds) asking rooms e h k =
+    subst (ToldReturned back values (tidying x asked b more ∷ ds) asking rooms) (sym h.1)
+    (none_there values.items asking rooms k)
+told_returned back values (destroys dropper i ∷ ds) asking rooms e h k =
+    subst (ToldReturned back values (destroys dropper i ∷ ds) asking rooms) (sym h)
+    (none_there values.items asking rooms k)
 
-abbrev RoomsMoved : Plan → State → Move → List Doing → List Region → Event → Option ℕ → Type 0
-RoomsMoved plan s m ds told e acting = (Traps e ⊎ IsAnswerTo plan acting ds m e) → IsEntered e
-    → AreRoomsOf (after_move plan acting s m e ds) told
+abbrev ToldMoved : Plan → State → Move → List Doing → Option Asking → List Region → Event
+    → Option ℕ → Type 0
+ToldMoved plan s m ds asking rooms e acting = rooms_told m e asking rooms (calls_of ds)
+    ≡ told_by m e ds (after_move plan acting s m e ds)
 
-trap_enters : (e : Event) → Traps e → IsEntered e → ⊥
-trap_enters e t x = subst IsEntered t.1 x
+told_at_trap : (plan : Plan) (s : State) (i : ℕ) (m : Move) (ds : List Doing)
+    (asking : Option Asking) (rooms : List Region) (e : Event) → Traps e
+    → ToldMoved plan s m ds asking rooms e (Some i)
+told_at_trap plan s i (move.Write at bytes) ds asking rooms e t = refl
+told_at_trap plan s i (move.Grow pages) ds asking rooms e t = refl
+told_at_trap plan s i (move.Call func args) ds asking rooms e t =
+    subst (λ (x : Event). ToldMoved plan s (move.Call func args) ds asking rooms x (Some i))
+    (sym t.1) refl
+told_at_trap plan s i (move.Return values) ds asking rooms e t =
+    subst (λ (x : Event). ToldMoved plan s (move.Return values) ds asking rooms x (Some i))
+    (sym t.1) refl
+told_at_trap plan s i move.Unreachable ds asking rooms e t = refl
 
-rooms_moved : (plan : Plan) (s : State) (i : ℕ) (m : Move) (ds : List Doing)
+told_moved : (plan : Plan) (s : State) (i : ℕ) (m : Move) (ds : List Doing)
     (asking : Option Asking) (rooms : List Region) (e : Event) → IsAsking ds asking rooms
-    → RoomsMoved plan s m ds (rooms_told m asking rooms) e (Some i)
-rooms_moved plan s i m ds asking rooms e k (inl t) x = absurd (trap_enters e t x)
-rooms_moved plan s i (move.Write at bytes) ds asking rooms e k (inr h) x =
-    absurd (subst IsEntered h x)
-rooms_moved plan s i (move.Grow pages) ds asking rooms e k (inr h) x =
-    absurd (subst IsEntered h.1 x)
-rooms_moved plan s i (move.Call func args) ds asking rooms e k (inr h) x =
+    → Traps e ⊎ IsAnswerTo plan (Some i) ds m e
+    → ToldMoved plan s m ds asking rooms e (Some i)
+told_moved plan s i m ds asking rooms e k (inl t) = told_at_trap plan s i m ds asking rooms e t
+told_moved plan s i (move.Write at bytes) ds asking rooms e k (inr h) = refl
+told_moved plan s i (move.Grow pages) ds asking rooms e k (inr h) = refl
+told_moved plan s i (move.Call func args) ds asking rooms e k (inr h) =
     let f = core_func_by_index plan (Some i) func in
     let a : AnswersCall i f e =
     subst (λ (j : ℕ). AnswersCall j f e) (sym (same_Some i h.0 h.1)) h.2 in
-    rooms_called s i args.items f (length ds) ds e a x
-rooms_moved plan s i (move.Return values) ds asking rooms e k (inr h) x =
+    told_called s i func args f ds e a
+told_moved plan s i (move.Return values) ds asking rooms e k (inr h) =
     let back : BodyReturn = record { callee = i; values = values.items; state = s } in
-    rooms_returned back values.items ds asking rooms e h k x
-rooms_moved plan s i move.Unreachable ds asking rooms e k (inr h) x = absurd h
+    told_returned back values ds asking rooms e h k
+told_moved plan s i move.Unreachable ds asking rooms e k (inr h) = refl
 
-pub rooms_on : (plan : Plan) (s : State) (i : ℕ) (m : Move) (ds : List Doing)
+pub told_on : (plan : Plan) (s : State) (i : ℕ) (m : Move) (ds : List Doing)
     (asking : Option Asking) (rooms : List Region) (e : Event) (acting : Option ℕ)
-    → acting ≡ Some i → IsAsking ds asking rooms
-    → RoomsMoved plan s m ds (rooms_told m asking rooms) e acting
-rooms_on plan s i m ds asking rooms e acting is k =
-    subst (RoomsMoved plan s m ds (rooms_told m asking rooms) e) (sym is)
-    (rooms_moved plan s i m ds asking rooms e k)
+    → acting ≡ Some i → IsAsking ds asking rooms → Traps e ⊎ IsAnswerTo plan acting ds m e
+    → ToldMoved plan s m ds asking rooms e acting
+told_on plan s i m ds asking rooms e acting is k =
+    subst (λ (o : Option ℕ). Traps e ⊎ IsAnswerTo plan o ds m e
+    → ToldMoved plan s m ds asking rooms e o) (sym is)
+    (told_moved plan s i m ds asking rooms e k)
+
+-- the last event of a root call tells nothing
+pub told_at_last : (m : Move) (e : Event) (ds es : List Doing) → is_last e ≡ true
+    → told_by m e ds es ≡ []
+told_at_last (move.Write at bytes) e ds es l = refl
+told_at_last (move.Grow pages) e ds es l = refl
+told_at_last (move.Call func args) event.Done ds es l = refl
+told_at_last (move.Call func args) (event.Grown p) ds es l = refl
+told_at_last (move.Call func args) (event.Enter i f vs) ds es l = absurd (true≢false (sym l))
+told_at_last (move.Call func args) (event.Realloc i f vs) ds es l = refl
+told_at_last (move.Call func args) (event.Resume i vs) ds es l = refl
+told_at_last (move.Call func args) (event.PostReturn i f vs) ds es l = refl
+told_at_last (move.Call func args) (event.Dtor i f rep) ds es l = refl
+told_at_last (move.Call func args) (event.Trapped t) ds es l = refl
+told_at_last (move.Call func args) event.Ended ds es l = refl
+told_at_last (move.Return values) event.Done ds es l = refl
+told_at_last (move.Return values) (event.Grown p) ds es l = refl
+told_at_last (move.Return values) (event.Enter i f vs) ds es l = absurd (true≢false (sym l))
+told_at_last (move.Return values) (event.Realloc i f vs) ds es l = refl
+told_at_last (move.Return values) (event.Resume i vs) ds es l = absurd (true≢false (sym l))
+told_at_last (move.Return values) (event.PostReturn i f vs) ds es l = absurd (true≢false (sym l))
+told_at_last (move.Return values) (event.Dtor i f rep) ds es l = refl
+told_at_last (move.Return values) (event.Trapped t) ds es l = refl
+told_at_last (move.Return values) event.Ended ds es l = refl
+told_at_last move.Unreachable e ds es l = refl
 
 -- ---- nothing changes outside of them
 
@@ -637,18 +721,14 @@ hands_inside x asked old new one h k r a out =
     h.sent.denoted in
     let asks : AsksFor rs [] asked =
     subst (λ (y : Val). AsksFor (sent_requests x y) [] asked) v k.2 in
-    let long : length asked ≡ length rs = k.3 ∙ ap (λ (y : Val). length (sent_requests x y)) v in
-    let all : length (answers_in asked) ≡ length asked =
-    r.2 ∙ ap (λ (y : Val). length (sent_requests x y)) u ∙ sym long in
-    let c = covers rs asked (sent_chained x h.v) asks all in
-    let whole : take (length asked) rs ≡ rs = ap (λ (n : ℕ). take n rs) long ∙ take-length rs in
+    let all : length (answers_in asked) ≡ length rs =
+    r.2 ∙ ap (λ (y : Val). length (sent_requests x y)) u in
     h.inside.outside a
-    (λ i. out (c.all a
-    (subst (λ (ys : List Request). IsInOne (regions_of ys (answers_in asked)) a) (sym whole) i)))
+    (λ i. out (cover_whole rs asked (sent_chained x h.v) (like_first rs asked asks) all a i))
 
 pub entry_inside : (es : List Doing) (old new : State) (j f : ℕ) (args : List CoreValue)
     (rooms : List Region) → OneValue → ChangesAtEntry es old new → Enters es j f args new
-    → AsksAt es → AreRoomsOf es rooms → (a : ℕ) → (IsInOne rooms a → ⊥)
+    → AsksAt es → rooms ≡ entered es → (a : ℕ) → (IsInOne rooms a → ⊥)
     → slice_index (memory_at new.memories j) a ≡ slice_index (memory_at old.memories j) a
 entry_inside [] old new j f args rooms one h e k t a out = absurd e
 entry_inside (root i ∷ ds) old new j f args rooms one h e k t a out = absurd e

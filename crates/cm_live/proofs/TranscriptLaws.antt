@@ -18,7 +18,15 @@ use Rattle.cm_live.specs.Tallies.{Counts, IsEndOf, ReadsNext}
 use Rattle.cm_live.specs.Transcripts.{AreRead, AreReadAtLeast, Ends, IsAtEndOf, IsNextLine}
 use Rattle.cm_live.specs.Transcripts.{IsUsedUp, Leads, LineDoes, LinesDo, Reply, ServedLine}
 use Rattle.cm_live.specs.Transcripts.{StayBelow, done, has_trapped, is_trap, moves_in, moves_of}
-use Rattle.cm_live.specs.Transcripts.{refused, unread}
+use Rattle.cm_live.specs.Transcripts.{IsAnswerOf, Streams, answers_to, recording_after, refused}
+use Rattle.cm_live.specs.Transcripts.{unread}
+use Rattle.cm_live.specs.Lines.{answer_lines}
+use Rattle.cm_live.specs.Tallies.{Answers}
+use Rattle.cm_live.proofs.LineLaws.{appends_both, appends_kept, appends_nothing}
+use Rattle.std.specs.Io.KnownBytes.{Appends}
+use Rattle.std.specs.Prelude.{codes}
+use Rattle.std.proofs.lemmas.Grind.{flat_map-append}
+use Rattle.std.proofs.lemmas.List.{append-nil}
 
 -- ---- what was read
 
@@ -79,11 +87,36 @@ read_in_part a b c ls r h = record { mid = b; part = h.0; lines = r; behind = h.
 
 -- ---- what lines do
 
-do_more : (linked : List Spaces) (s t u : RunningSet) (ls : List ServedLine) (l : ServedLine) → LinesDo linked s ls t
-    → LineDoes linked t l.bytes l.reply u → LinesDo linked s (ls ++ l ∷ []) u
-do_more linked s t u [] l e h =
-    (u, subst (λ (x : RunningSet). LineDoes linked x l.bytes l.reply u) e h, refl)
-do_more linked s t u (x ∷ ls) l d h = (d.0, d.1, do_more linked d.0 t u ls l d.2 h)
+-- what is recorded behind lines
+abbrev pub recording_behind : Option Bool → List ServedLine → Option Bool
+recording_behind rec [] = rec
+recording_behind rec (l ∷ ls) = recording_behind (recording_after rec l.reply) ls
+
+recording_more : (rec : Option Bool) (ls : List ServedLine) (l : ServedLine)
+    → recording_behind rec (ls ++ l ∷ []) ≡ recording_after (recording_behind rec ls) l.reply
+recording_more rec [] l = refl
+recording_more rec (x ∷ ls) l = recording_more (recording_after rec x.reply) ls l
+
+do_more : (linked : List Spaces) (rec : Option Bool) (s t u : RunningSet) (ls : List ServedLine)
+    (l : ServedLine) → LinesDo linked rec s ls t
+    → LineDoes linked (recording_behind rec ls) t l.bytes l.reply u → IsAnswerOf u l.reply l.answer
+    → LinesDo linked rec s (ls ++ l ∷ []) u
+do_more linked rec s t u [] l e h a =
+    (u, subst (λ (x : RunningSet). LineDoes linked rec x l.bytes l.reply u) e h, a, refl)
+do_more linked rec s t u (x ∷ ls) l d h a =
+    (d.0, d.1, d.2, do_more linked (recording_after rec x.reply) d.0 t u ls l d.3 h a)
+
+-- an answer that was not written, or not all of it
+unwritten : (s : RunningSet) (r : Reply) → (bytes : List ℕ) × IsAnswerOf s r bytes
+unwritten s (unread f) = (codes "error: " ++ [] ++ codes "\n", ([], refl))
+unwritten s (refused t f) = (codes "error: " ++ [] ++ codes "\n", ([], refl))
+unwritten s (done t a) = (answer_lines s.state a, refl)
+
+answers_more : (ls : List ServedLine) (l : ServedLine)
+    → answers_to (ls ++ l ∷ []) ≡ answers_to ls ++ l.answer
+answers_more ls l =
+    flat_map-append (λ (x : ServedLine). x.answer) ls (l ∷ [])
+    ∙ ap (λ (bs : List ℕ). answers_to ls ++ bs) (append-nil l.answer)
 
 moves_more : (ls : List ServedLine) (l : ServedLine)
     → moves_in (ls ++ l ∷ []) ≡ moves_in ls + moves_of l.reply
@@ -114,80 +147,160 @@ one_at_most (done (statement.Guest i) a) = omega arith
 one_at_most (done (statement.Move m) a) = omega arith
 one_at_most (done (statement.Begin i) a) = omega arith
 
--- So many lines were served so far, and counted so.
-pub record SoFar (linked : List Spaces) (old : RunningSet) (limit : ℕ)
-    (known : Option (List ℕ)) (ls : List ServedLine) (new : RunningSet)
-    (left : Option (List ℕ)) (t : Tally) (count : ℕ) : Type 0 where
-  pub leads : Leads linked old limit ls new
-  pub read : AreRead known ls left
+-- So many lines were served so far, answered, and counted so.
+pub record SoFar (linked : List Spaces) (rec : Option Bool) (old : RunningSet) (limit : ℕ)
+    (known : Streams) (ls : List ServedLine) (new : RunningSet) (now : Option Bool)
+    (left : Streams) (t : Tally) (count : ℕ) : Type 0 where
+  pub leads : Leads linked rec old limit ls new
+  pub recording : now ≡ recording_behind rec ls
+  pub read : AreRead known.input ls left.input
+  pub written : Appends known.output left.output (answers_to ls)
   pub moves : t.moves ≡ moves_in ls
   pub trapped : t.trapped ≡ has_trapped ls
   pub count_is : length ls ≡ count
 
+-- What serving was until it stopped behind these lines.
+pub record Until (linked : List Spaces) (rec : Option Bool) (old : RunningSet) (limit : ℕ)
+    (known : Streams) (ls : List ServedLine) (new : RunningSet) (more : Option (List ℕ))
+    : Type 0 where
+  pub leads : Leads linked rec old limit ls new
+  pub read : AreRead known.input ls more
+
 -- ---- one line more
 
-one_served : (linked : List Spaces) (old : RunningSet) (limit : ℕ)
-    (known : Option (List ℕ)) (ls : List ServedLine) (s : RunningSet)
-    (left : Option (List ℕ)) (t : Tally) (count : ℕ) (line : List ℕ) (more : Option (List ℕ))
-    (r : Reply) (new : RunningSet) (u : Tally)
-    → SoFar linked old limit known ls s left t count → t.moves < limit
-    → IsNextLine left line more → LineDoes linked s line r new → Counts t r u
-    → SoFar linked old limit known (ls ++ record { bytes = line; reply = r } ∷ []) new more u
-    (count + 1)
-one_served linked old limit known ls s left t count line more r new u f b n d c =
-    let l : ServedLine = record { bytes = line; reply = r } in
+-- a line that was read
+next_line : (there : Bool) (left : Option (List ℕ)) (items bytes : List ℕ)
+    (more : Option (List ℕ)) → bytes ≡ items → there ≡ true → ReadsNext there left items more
+    → IsNextLine left bytes more
+next_line there left items bytes more b h n =
+    subst (λ (xs : List ℕ). IsNextLine left xs more) (sym b)
+    (subst (λ (z : Bool). ReadsNext z left items more) h n)
+
+abbrev line_of : List ℕ → Reply → List ℕ → ServedLine
+line_of bytes r answer = record { bytes = bytes; reply = r; answer = answer }
+
+-- a line that was read, and did this
+pub record IsOne (linked : List Spaces) (now : Option Bool) (s : RunningSet)
+    (left : Option (List ℕ)) (bytes : List ℕ) (r : Reply) (more : Option (List ℕ))
+    (new : RunningSet) : Type 0 where
+  pub next : IsNextLine left bytes more
+  pub does : LineDoes linked now s bytes r new
+
+pub is_one : (linked here : List Spaces) (now : Option Bool) (s : RunningSet)
+    (left : Option (List ℕ)) (items bytes : List ℕ) (there : Bool) (r : Reply)
+    (more : Option (List ℕ)) (new : RunningSet) → here ≡ linked → bytes ≡ items → there ≡ true
+    → ReadsNext there left items more → LineDoes here now s bytes r new
+    → IsOne linked now s left bytes r more new
+is_one linked here now s left items bytes there r more new e b h n d = record {
+  next = next_line there left items bytes more b h n;
+  does = subst (λ (k : List Spaces). LineDoes k now s bytes r new) e d;
+}
+
+one_done : (linked : List Spaces) (rec : Option Bool) (old : RunningSet) (limit : ℕ)
+    (known : Streams) (ls : List ServedLine) (s : RunningSet) (now : Option Bool)
+    (left : Streams) (t : Tally) (count : ℕ) (l : ServedLine) (more : Option (List ℕ))
+    (new : RunningSet)
+    → SoFar linked rec old limit known ls s now left t count → t.moves < limit
+    → IsOne linked now s left.input l.bytes l.reply more new → IsAnswerOf new l.reply l.answer
+    → Until linked rec old limit known (ls ++ l ∷ []) new more
+one_done linked rec old limit known ls s now left t count l more new f b o a =
     let m = moves_more ls l in
     record {
       leads = record {
-        does = do_more linked old s new ls l f.leads.does d;
-        few = omega (arith, m, f.moves, one_at_most r);
+        does = do_more linked rec old s new ls l f.leads.does
+            (subst (λ (k : Option Bool). LineDoes linked k s l.bytes l.reply new) f.recording
+            o.does) a;
+        few = omega (arith, m, f.moves, one_at_most l.reply);
         below = below_more 0 limit ls l f.leads.below (omega (arith, f.moves));
       };
-      read = read_more known left more ls l f.read n;
-      moves = omega (arith, m, f.moves, c.moves);
-      trapped = c.trapped ∙ ap (λ (b : Bool). b || is_trap r) f.trapped ∙ sym (traps_more ls l);
-      count_is = length_push ls l ∙ ap (λ (n : ℕ). n + 1) f.count_is;
+      read = read_more known.input left.input more ls l f.read o.next;
     }
 
--- the same, of a line that was read and served
-pub one_line : (linked now : List Spaces) (old : RunningSet) (limit : ℕ)
-    (known : Option (List ℕ)) (ls : List ServedLine) (s : RunningSet)
-    (left : Option (List ℕ)) (t : Tally) (count : ℕ) (items bytes : List ℕ) (there : Bool)
-    (more : Option (List ℕ)) (new : RunningSet) (u : Tally)
-    → SoFar linked old limit known ls s left t count → t.moves < limit → now ≡ linked
-    → bytes ≡ items → there ≡ true → ReadsNext there left items more
-    → (r : Reply) × LineDoes now s bytes r new × Counts t r u
-    → (ms : List ServedLine) × SoFar linked old limit known ms new more u (count + 1)
-one_line linked now old limit known ls s left t count items bytes there more new u f lt e b h n d =
-    let here : IsNextLine left items more =
-    subst (λ (z : Bool). ReadsNext z left items more) h n in (
-      ls ++ record { bytes = bytes; reply = d.0 } ∷ [],
-      one_served linked old limit known ls s left t count bytes more d.0 new u f lt
-          (subst (λ (xs : List ℕ). IsNextLine left xs more) (sym b) here)
-          (subst (λ (k : List Spaces). LineDoes k s bytes d.0 new) e d.1) d.2,
+-- the same, of a line whose answer was not written
+pub one_cut : (linked : List Spaces) (rec : Option Bool) (old : RunningSet) (limit : ℕ)
+    (known : Streams) (ls : List ServedLine) (s : RunningSet) (now : Option Bool)
+    (left : Streams) (t : Tally) (count : ℕ) (bytes : List ℕ) (r : Reply)
+    (more : Option (List ℕ)) (new : RunningSet)
+    → SoFar linked rec old limit known ls s now left t count → t.moves < limit
+    → IsOne linked now s left.input bytes r more new
+    → (ms : List ServedLine) × Until linked rec old limit known ms new more
+one_cut linked rec old limit known ls s now left t count bytes r more new f b o =
+    let a = unwritten new r in
+    let l = line_of bytes r a.0 in (
+      ls ++ l ∷ [],
+      one_done linked rec old limit known ls s now left t count l more new f b o a.1,
     )
 
-pub nothing_served : (linked : List Spaces) (s : RunningSet) (limit : ℕ)
+-- the same, of a line that was answered
+pub one_line : (linked : List Spaces) (rec : Option Bool) (old : RunningSet) (limit : ℕ)
+    (known : Streams) (ls : List ServedLine) (s : RunningSet) (now : Option Bool)
+    (left : Streams) (t : Tally) (count : ℕ) (bytes : List ℕ) (r : Reply) (after : Streams)
+    (new : RunningSet) (u : Tally) (recorded : Option Bool) (mid : Option (List ℕ))
+    → SoFar linked rec old limit known ls s now left t count → t.moves < limit
+    → IsOne linked now s left.input bytes r after.input new → Counts t r u
+    → Answers new r now recorded left.output mid → Keeps mid after.output
+    → (ms : List ServedLine) × SoFar linked rec old limit known ms new recorded after u (count + 1)
+one_line linked rec old limit known ls s now left t count bytes r after new u recorded mid f b o c a k =
+    let l = line_of bytes r a.bytes in
+    let w =
+    one_done linked rec old limit known ls s now left t count l after.input new f b o a.answer in
+    let m = moves_more ls l in (
+      ls ++ l ∷ [],
+      record {
+        leads = w.leads;
+        recording =
+            a.record_is ∙ ap (λ (o : Option Bool). recording_after o r) f.recording
+            ∙ sym (recording_more rec ls l);
+        read = w.read;
+        written = subst (Appends known.output after.output) (sym (answers_more ls l))
+            (appends_both known.output left.output after.output (answers_to ls) a.bytes f.written
+            (appends_kept left.output mid after.output a.bytes a.written k));
+        moves = omega (arith, m, f.moves, c.moves);
+        trapped = c.trapped ∙ ap (λ (b : Bool). b || is_trap r) f.trapped ∙ sym (traps_more ls l);
+        count_is = length_push ls l ∙ ap (λ (n : ℕ). n + 1) f.count_is;
+      },
+    )
+
+pub nothing_served : (linked : List Spaces) (rec : Option Bool) (s : RunningSet) (limit : ℕ)
     (known : Option (List ℕ))
-    → Leads linked s limit [] s × AreReadAtLeast known [] known
-nothing_served linked s limit known = (
+    → Leads linked rec s limit [] s × AreReadAtLeast known [] known
+nothing_served linked rec s limit known = (
   record { does = refl; few = omega arith; below = tt },
   read_whole known known [] (keeps_itself known),
 )
 
+pub nothing_so_far : (linked : List Spaces) (rec : Option Bool) (old : RunningSet) (limit : ℕ)
+    (known : Streams) (t : Tally) → t.moves ≡ 0 → t.trapped ≡ false
+    → SoFar linked rec old limit known [] old rec known t 0
+nothing_so_far linked rec old limit known t m n = record {
+  leads = record { does = refl; few = omega arith; below = tt };
+  recording = refl;
+  read = keeps_itself known.input;
+  written = appends_nothing known.output;
+  moves = m;
+  trapped = n;
+  count_is = refl;
+}
+
 -- ---- the end
 
-pub ends_so : (served : Served) (linked : List Spaces) (old : RunningSet) (limit : ℕ)
-    (known : Option (List ℕ)) (ls : List ServedLine) (s : RunningSet) (left : Option (List ℕ))
-    (t : Tally) (count : ℕ) (end : Option (List ℕ))
-    → SoFar linked old limit known ls s left t count → IsEndOf served t limit
-    → (t.moves < limit → IsAtEndOf known ls end) → Ends served limit known ls end
-ends_so served.Limit linked old limit known ls s left t count end f e o =
+pub ends_so : (served : Served) (linked : List Spaces) (rec : Option Bool) (old : RunningSet)
+    (limit : ℕ) (known : Streams) (ls : List ServedLine) (s : RunningSet) (now : Option Bool)
+    (left : Streams) (t : Tally) (count : ℕ) (end : Option (List ℕ))
+    → SoFar linked rec old limit known ls s now left t count → IsEndOf served t limit
+    → (t.moves < limit → IsAtEndOf known.input ls end) → Ends served limit known.input ls end
+ends_so served.Limit linked rec old limit known ls s now left t count end f e o =
     omega (arith, f.moves, f.leads.few)
-ends_so served.Trapped linked old limit known ls s left t count end f e o =
+ends_so served.Trapped linked rec old limit known ls s now left t count end f e o =
     (omega (arith, f.moves), sym f.trapped ∙ e.1, o e.0)
-ends_so served.Ended linked old limit known ls s left t count end f e o =
+ends_so served.Ended linked rec old limit known ls s now left t count end f e o =
     (omega (arith, f.moves), sym f.trapped ∙ e.1, o e.0)
+
+-- what was written behind a greeting
+pub greeted : (a b c d : Option (List ℕ)) (greeting answers : List ℕ) → Appends a b greeting
+    → Keeps b c → Appends c d ([] ++ answers) → Appends a d (greeting ++ answers)
+greeted a b c d greeting answers h k w =
+    appends_both a c d greeting answers (appends_kept a b c greeting h k) w
 
 -- ---- one line
 

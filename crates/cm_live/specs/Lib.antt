@@ -1,9 +1,12 @@
-pub mod Callers
+pub mod Calls
 pub mod Kept
+pub mod Lines
 pub mod Mirrors
 pub mod Playing
+pub mod Recordings
 pub mod Rooms
 pub mod Sessions
 pub mod Statements
 pub mod Tallies
+pub mod Told
 pub mod Transcripts

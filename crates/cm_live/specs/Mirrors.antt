@@ -1,6 +1,6 @@
 -- What becomes of the memories of a set by a move, for a client that mirrors them (CanonicalABI.md,
 -- "Storing"; what a client is told is this project's own choice).
-use Rattle.std.specs.Prelude.{◌≡◌, ℕ, ⊤, Some, length, slice_index}
+use Rattle.std.specs.Prelude.{◌≡◌, ℕ, ⊤, [], Some, length, slice_index}
 use Rattle.std.specs.Option.{option_map}
 use Rattle.cm_abi_model.specs.Overlap.{IsInOne}
 use Rattle.cm_machine.specs.cm_machine_model.declared.event.Event.{Event}
@@ -18,6 +18,7 @@ use Rattle.cm_tool_script.specs.declared.statement.Statement.TheVariants as stat
 use Rattle.cm_live.specs.declared.answer.Answer.{Answer}
 use Rattle.cm_live.specs.declared.answer.Answer.TheVariants as answer
 use Rattle.cm_live.specs.declared.answer.Written.{Written}
+use Rattle.cm_live.specs.Told.{TellsExactly}
 
 -- Of this instance's memory bytes may change, and nothing else of any memory: none grows.
 pub record OnlyBytesChange (old : State) (i : ℕ) (new : State) : Type 0 where
@@ -33,8 +34,8 @@ pub record OnlyRegionsChange (old : State) (w : Written) (new : State) : Type 0 
 
 -- What becomes of memories by a move of this instance with this event, where what was written is
 -- told so: its own write or growth changes the memory of the instance that moves, and of no other;
--- where a body begins, bytes change inside the regions that are told alone; where a result may have
--- been handed over, bytes change of no memory but the one that is told; else none changes.
+-- where a body begins, or a result is handed over, bytes change inside the regions that are told
+-- alone; else none changes.
 abbrev pub ChangesAreTold : State → ℕ → Move → Event → Written → State → Type 0
 ChangesAreTold old i (move.Write at bytes) event.Done told new =
     WritesExactly (memory_at old.memories i) at bytes.items (memory_at new.memories i)
@@ -47,21 +48,29 @@ ChangesAreTold old i (move.Call func args) (event.Enter j body values) told new 
 ChangesAreTold old i (move.Return values) (event.Enter j body args) told new =
     OnlyRegionsChange old told new
 ChangesAreTold old i (move.Return values) (event.PostReturn j func args) told new =
-    OnlyBytesChange old told.instance new
+    OnlyRegionsChange old told new
 ChangesAreTold old i (move.Return values) (event.Resume j back) told new =
-    OnlyBytesChange old told.instance new
+    OnlyRegionsChange old told new
 ChangesAreTold old i m e told new = SameMemories old new
 
--- The answer to a move tells what was written, beside the memory of the instance that moved.
-abbrev pub TellsWhose : State → Move → Answer → State → Type 0
+-- The answer to a move tells what was written, beside the memory of the instance that moved, and
+-- no more than that.
+abbrev pub TellsWhose : RunningSet → Move → Answer → RunningSet → Type 0
 TellsWhose old m answer.Ready new = ⊤
 TellsWhose old m (answer.Told written e) new =
-    ∥ ((i : ℕ) × (option_map actor (top_of old.stack) ≡ Some i)
-    × ChangesAreTold old i m e written new) ∥₁
+    ∥ ((i : ℕ) × (option_map actor (top_of old.state.stack) ≡ Some i)
+    × ChangesAreTold old.state i m e written new.state
+    × TellsExactly old m e written new.state) ∥₁
+
+-- The answer to the beginning of a root call tells nothing.
+abbrev pub TellsNothing : Answer → Type 0
+TellsNothing answer.Ready = ⊤
+TellsNothing (answer.Told written e) = written.regions.items ≡ []
 
 -- The answer to a statement does: a root call begins with the memories as they were.
 abbrev pub KeepsMirrors : RunningSet → Statement → Answer → RunningSet → Type 0
 KeepsMirrors old (statement.Pages pages) a new = ⊤
 KeepsMirrors old (statement.Guest i) a new = ⊤
-KeepsMirrors old (statement.Begin root) a new = SameMemories old.state new.state
-KeepsMirrors old (statement.Move m) a new = TellsWhose old.state m a new.state
+KeepsMirrors old (statement.Begin root) a new =
+    SameMemories old.state new.state × TellsNothing a
+KeepsMirrors old (statement.Move m) a new = TellsWhose old m a new

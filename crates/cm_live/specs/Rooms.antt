@@ -1,25 +1,19 @@
 -- Rooms that allocators answered for a value, as they are told (CanonicalABI.md, `realloc`).
-use Rattle.std.specs.Prelude.{◌≡◌, ℕ, ⊤, Bool, List, [], ◌∷◌, Option, Some, None, if◌then◌else◌}
+use Rattle.std.specs.Prelude.{◌≡◌, ℕ, ⊤, List, [], ◌∷◌, Option, Some, None, if◌then◌else◌}
 use Rattle.std.specs.Prelude.{nat_lt, slice_get, unwrap_or}
 use Rattle.cm_types.specs.declared.core_value.CoreValue.{CoreValue}
-use Rattle.cm_types.specs.declared.core_value.CoreValue.TheVariants as core_value
 use Rattle.cm_abi_model.specs.declared.region.Region.{Region}
 use Rattle.cm_machine.specs.cm_machine_model.declared.event.Event.{Event}
 use Rattle.cm_machine.specs.cm_machine_model.declared.event.Event.TheVariants as event
 use Rattle.cm_machine.specs.cm_machine_model.declared.moves.Move.{Move}
 use Rattle.cm_machine.specs.cm_machine_model.declared.moves.Move.TheVariants as move
 use Rattle.cm_machine.specs.cm_machine_told.Causes.{MayCall}
-use Rattle.cm_machine.specs.cm_machine_told.Doing.{Asked, Doing, body, destroys, handing, placing}
-use Rattle.cm_machine.specs.cm_machine_told.Doing.{root, tidying}
+use Rattle.cm_machine.specs.cm_machine_told.Doing.{Asked, Doing, handing, placing}
+use Rattle.cm_live.specs.Calls.{number_of}
 use Rattle.cm_live.specs.declared.goings_on.Asking.{Asking}
+use Rattle.cm_live.specs.declared.goings_on.Call.{Call}
 
 -- ---- what is asked and answered
-
--- the number of a core value; 0 where it is none of 32 bits
-abbrev pub number_of : Option CoreValue → ℕ
-number_of (Some (core_value.I32 n)) = n
-number_of (Some (core_value.I64 n)) = 0
-number_of None = 0
 
 -- what an allocator is asked for by these core values
 abbrev pub asking_by : List CoreValue → Asking
@@ -89,22 +83,31 @@ rooms_after_move (move.Return values) e asking rooms =
     rooms_left e (rooms_answered asking values.items rooms)
 rooms_after_move m e asking rooms = rooms
 
--- ---- what is told at an entry
+-- ---- what is told
 
--- a body begins by this event
-abbrev pub IsEntered : Event → Type 0
-IsEntered (event.Enter i f args) = ⊤
-IsEntered e = ⊥
+-- behind all rooms the place of a result, where it has one
+abbrev pub with_place : Option Region → List Region → List Region
+with_place None rooms = rooms
+with_place (Some place) rooms = place ∷ rooms
 
--- the rooms that a move tells at an entry, the latest first
-abbrev pub rooms_told : Move → Option Asking → List Region → List Region
-rooms_told (move.Return values) asking rooms = rooms_answered asking values.items rooms
-rooms_told m asking rooms = []
+-- where the latest call wants its result
+abbrev pub latest_place : List Call → Option Region
+latest_place [] = None
+latest_place (c ∷ cs) = c.result
 
--- where a body goes on, these are the rooms of its arguments
-abbrev pub AreRoomsOf : List Doing → List Region → Type 0
-AreRoomsOf (body x asked ∷ ds) rooms = rooms ≡ rooms_of asked
-AreRoomsOf ds rooms = ⊤
+-- what a return with this event tells, the latest first: the rooms of the arguments where a body is
+-- entered; those of a result, and its place, where it is handed over
+abbrev pub told_by_return : Event → List Region → List Call → List Region
+told_by_return (event.Enter i f args) rooms cs = rooms
+told_by_return (event.PostReturn i f args) rooms cs = with_place (latest_place cs) rooms
+told_by_return (event.Resume i values) rooms cs = with_place (latest_place cs) rooms
+told_by_return e rooms cs = []
+
+-- what a move with this event tells
+abbrev pub rooms_told : Move → Event → Option Asking → List Region → List Call → List Region
+rooms_told (move.Return values) e asking rooms cs =
+    told_by_return e (rooms_answered asking values.items rooms) cs
+rooms_told m e asking rooms cs = []
 
 -- all of this may call: what goes on below the latest has called
 abbrev pub AllMayCall : List Doing → Type 0

@@ -7,7 +7,7 @@ use Rattle.cm_live.specs.declared.session.Session.{Session}
 
 -- the components that were linked, by their index spaces
 abbrev pub linked_of : Session → List Spaces
-linked_of s = set_in s.linked.now
+linked_of s = set_in s.playing.linked.now
 
 -- the set that is played
 abbrev pub set_of : Session → RunningSet

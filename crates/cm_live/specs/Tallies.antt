@@ -7,7 +7,8 @@ use Rattle.cm_live.specs.declared.served.Served.{Served}
 use Rattle.cm_live.specs.declared.served.Served.TheVariants as served
 use Rattle.cm_live.specs.declared.served.Tally.{Tally}
 use Rattle.cm_live.specs.Transcripts.{Reply, unread, refused, done, is_trap, moves_of, LineDoes}
-use Rattle.cm_live.specs.Transcripts.{IsNextLine, IsUsedUp}
+use Rattle.cm_live.specs.Transcripts.{IsAnswerOf, IsNextLine, IsUsedUp, recording_after}
+use Rattle.std.specs.Io.KnownBytes.{Appends}
 
 -- a line more, and what became of it
 pub record Counts (old : Tally) (r : Reply) (new : Tally) : Type 0 where
@@ -27,11 +28,20 @@ IsFaultOf (refused s f) g = g ≡ f
 IsFaultOf (done s a) g = ⊥
 
 -- A line is refused for this reason: nothing has changed.
-abbrev pub IsRefusal : List Spaces → RunningSet → List ℕ → LiveFault → RunningSet → Type 0
-IsRefusal linked old bytes f new =
-    (r : Reply) × IsFaultOf r f × LineDoes linked old bytes r new
+abbrev pub IsRefusal : List Spaces → Option Bool → RunningSet → List ℕ → LiveFault → RunningSet
+    → Type 0
+IsRefusal linked recording old bytes f new =
+    (r : Reply) × IsFaultOf r f × LineDoes linked recording old bytes r new
 
 -- the next line was read, or there is none
 abbrev pub ReadsNext : Bool → Option (List ℕ) → List ℕ → Option (List ℕ) → Type 0
 ReadsNext true old line new = IsNextLine old line new
 ReadsNext false old line new = IsUsedUp old new
+
+-- A line was answered, and its statement recorded, where it was done.
+pub record Answers (now : RunningSet) (r : Reply) (recording recorded : Option Bool)
+    (old new : Option (List ℕ)) : Type 0 where
+  pub bytes : List ℕ
+  pub answer : IsAnswerOf now r bytes
+  pub written : Appends old new bytes
+  pub record_is : recorded ≡ recording_after recording r

@@ -1,10 +1,14 @@
 //! Why a line is refused.
 
-ghost use Rattle.std.specs.Prelude.{◌≡◌};
+ghost use Rattle.std.specs.Prelude.{◌≡◌, ℕ, List, OnOk};
+ghost use Rattle.std.specs.Io.KnownBytes.{Appends};
+ghost use Rattle.cm_live.specs.Lines.{IsErrorLine};
 ghost use Rattle.cm_live.specs.declared.fault.LiveFault.TheVariants as fault;
 
+use arrayvec::ArrayString;
 use cm_machine::Misuse;
 use cm_tool_script::{LineFault, form_of};
+use std::fmt::Write as _;
 use std::io::Write;
 use std::{fmt, io, str};
 
@@ -46,18 +50,37 @@ impl fmt::Display for LiveFault {
     }
 }
 
+/// What a line that is no statement was expected to be.
+fn expected(fault: LiveFault, line: &[u8]) -> Option<&'static str> {
+    match fault {
+        LiveFault::Line(LineFault::NotAStatement | LineFault::BadHex) => {
+            let text = str::from_utf8(line).unwrap_or("");
+            Some(form_of(text.trim_end()))
+        }
+        _ => None,
+    }
+}
+
+/// The reason, and of a line that is no statement what was expected. None has more bytes than fit.
+fn reason_of(fault: LiveFault, line: &[u8]) -> ArrayString<256> {
+    let mut reason = ArrayString::new();
+    let _fits = match expected(fault, line) {
+        Some(form) => write!(reason, "{fault}: expected {form}"),
+        None => write!(reason, "{fault}"),
+    };
+    reason
+}
+
 /// Writes why a line is refused; of one that is no statement also what was expected.
 pub(crate) fn write_refusal<W: Write>(
     writer: &mut W,
     fault: LiveFault,
     line: &[u8],
-) -> io::Result<()> {
-    match fault {
-        LiveFault::Line(LineFault::NotAStatement | LineFault::BadHex) => {
-            let text = str::from_utf8(line).unwrap_or("");
-            let form = form_of(text.trim_end());
-            writeln!(writer, "error: {fault}: expected {form}")
-        }
-        _ => writeln!(writer, "error: {fault}"),
-    }
+) -> io::Result<()>
+    ensures { OnOk result ((bytes : List ℕ) × IsErrorLine bytes
+        × Appends (W.contents writer.old) (W.contents writer.new) bytes) }
+{
+    let reason = reason_of(fault, line);
+    let reason = reason.as_str();
+    writeln!(writer, "error: {reason}")
 }

@@ -1,18 +1,17 @@
 //! What goes on, told by moves and events, as far as adapters write memory for it.
 
-ghost use Rattle.std.specs.Prelude.{◌≡◌, ◌<◌, [], ◌∷◌, false, length, reverse, slice_get, true};
-ghost use Rattle.std.specs.Prelude.{MatchOption, None, OnOk, OnSome};
+ghost use Rattle.std.specs.Prelude.{◌≡◌, ◌+◌, ◌<◌, ◌≤◌, [], ◌∷◌, false, length, reverse, slice_get};
+ghost use Rattle.std.specs.Prelude.{MatchOption, None, OnOk, OnSome, true};
 ghost use Rattle.cm_machine.specs.cm_machine_model.Events.{is_last};
-ghost use Rattle.cm_live.specs.Callers.{IsLatest, IsToldAfter, IsToldAtCall, IsToldAtReturn};
-ghost use Rattle.cm_live.specs.Callers.{callers, callers_after, callers_after_call};
-ghost use Rattle.cm_live.specs.Callers.{callers_after_return, earlier, opens, opens_by};
-ghost use Rattle.cm_live.specs.Kept.{CanKeep, rooms};
-ghost use Rattle.cm_live.specs.Rooms.{IsEntered, asking_after_move, asking_by, asking_by_event};
-ghost use Rattle.cm_live.specs.Rooms.{number_of, older, rooms_after_move, rooms_answered};
-ghost use Rattle.cm_live.specs.Rooms.{rooms_left, rooms_told};
+ghost use Rattle.cm_live.specs.Calls.{IsLatest, IsToldAfter, IsToldAtCall, IsToldAtReturn, calls};
+ghost use Rattle.cm_live.specs.Calls.{calls_after, calls_after_call, calls_after_return, earlier};
+ghost use Rattle.cm_live.specs.Calls.{latest_has_come, number_of, opens, opens_by, without_result};
+ghost use Rattle.cm_live.specs.Kept.{CanKeep, CanKeepOne, rooms};
+ghost use Rattle.cm_live.specs.Rooms.{asking_after_move, asking_by, asking_by_event, latest_place};
+ghost use Rattle.cm_live.specs.Rooms.{older, rooms_after_move, rooms_answered, rooms_left};
+ghost use Rattle.cm_live.specs.Rooms.{rooms_told, told_by_return, with_place};
 
 use crate::answer::Written;
-use crate::results::ResultPlaces;
 use arrayvec::ArrayVec;
 use cm_abi_model::Region;
 use cm_machine::{Event, Flat, MAX_FRAMES, Move};
@@ -49,7 +48,7 @@ pub(crate) struct GoingsOn {
 }
 
 /// The number of a core value: 0 where it is none of 32 bits.
-fn number_at(values: &[CoreValue], index: usize) -> u32
+pub(crate) fn number_at(values: &[CoreValue], index: usize) -> u32
     ensures { result ≡ number_of (slice_get values.now index) }
 {
     match values.get(index) {
@@ -69,10 +68,22 @@ fn asking_by(args: &[CoreValue]) -> Asking
     }
 }
 
+impl Call {
+    /// The same call, whose result has come or is none.
+    fn without_result(self) -> Call
+        ensures { result ≡ without_result self }
+    {
+        Call {
+            caller: self.caller,
+            result: None,
+        }
+    }
+}
+
 impl GoingsOn {
     /// Nothing.
     pub(crate) fn new(alloc: Global) -> GoingsOn
-        ensures callers { callers result ≡ [] }
+        ensures calls { calls result ≡ [] }
         ensures asking { result.asking ≡ None }
         ensures rooms { rooms result ≡ [] }
     {
@@ -96,7 +107,7 @@ impl GoingsOn {
 
     /// Nothing goes on.
     pub(crate) fn clear(&mut self)
-        ensures callers { callers self.new ≡ [] }
+        ensures calls { calls self.new ≡ [] }
         ensures asking { self.new.asking ≡ None }
         ensures rooms { rooms self.new ≡ [] }
     {
@@ -105,41 +116,30 @@ impl GoingsOn {
         self.rooms.clear();
     }
 
-    /// Goes on after a move of an instance with this event, and tells what adapters wrote.
-    pub(crate) fn go_on(
-        &mut self,
-        results: &ResultPlaces,
-        actor: u32,
-        made: &Move,
-        event: &Event,
-    ) -> Written
-        ensures callers { (opens_by made.now event.now ≡ true
-            → length (callers self.old) < MAX_FRAMES)
-            → callers self.new ≡ callers_after made.now event.now actor (callers self.old) }
+    /// Goes on after a move with this event, which is this call where it is one, and tells what
+    /// adapters wrote.
+    pub(crate) fn go_on(&mut self, call: Call, made: &Move, event: &Event) -> Written
+        ensures calls { (opens_by made.now event.now ≡ true
+            → length (calls self.old) < MAX_FRAMES)
+            → calls self.new ≡ calls_after made.now event.now call (calls self.old) }
         ensures told { is_last event.now ≡ false
-            → IsToldAfter made.now event.now (callers self.old) result.instance }
+            → IsToldAfter made.now event.now (calls self.old) result.instance }
         ensures last { is_last event.now ≡ true
-            → (self.new.asking ≡ None) × (rooms self.new ≡ []) }
+            → (self.new.asking ≡ None) × (rooms self.new ≡ []) × (result.regions.items ≡ []) }
         ensures asking { is_last event.now ≡ false
             → self.new.asking ≡ asking_after_move made.now event.now self.old.asking }
         ensures rooms { CanKeep self.old → is_last event.now ≡ false → rooms self.new
             ≡ rooms_after_move made.now event.now self.old.asking (rooms self.old) }
-        ensures regions { CanKeep self.old → is_last event.now ≡ false → IsEntered event.now
+        ensures regions { CanKeep self.old → is_last event.now ≡ false
             → reverse result.regions.items
-            ≡ rooms_told made.now self.old.asking (rooms self.old) }
+            ≡ rooms_told made.now event.now self.old.asking (rooms self.old) (calls self.old) }
     {
         if event.is_last() {
             self.clear();
             return self.nothing_in(0);
         }
         match made {
-            Move::Call { func, args } => {
-                let call = Call {
-                    caller: actor,
-                    result: results.wanted(actor, *func, args),
-                };
-                self.after_call(call, event)
-            }
+            Move::Call { .. } => self.after_call(call, event),
             Move::Return { values } => self.after_return(values, event),
             Move::Write { .. } | Move::Grow { .. } | Move::Unreachable => self.nothing_in(0),
         }
@@ -147,8 +147,8 @@ impl GoingsOn {
 
     /// Goes on after a call that this event answers: so far adapters wrote nothing.
     fn after_call(&mut self, call: Call, event: &Event) -> Written
-        ensures callers { (opens event.now ≡ true → length (callers self.old) < MAX_FRAMES)
-            → callers self.new ≡ callers_after_call event.now call.caller (callers self.old) }
+        ensures calls { (opens event.now ≡ true → length (calls self.old) < MAX_FRAMES)
+            → calls self.new ≡ calls_after_call event.now call (calls self.old) }
         ensures told { IsToldAtCall event.now result.instance }
         ensures asking { self.new.asking ≡ asking_by_event event.now self.old.asking }
         ensures rooms { rooms self.new ≡ rooms self.old }
@@ -165,7 +165,7 @@ impl GoingsOn {
                 self.nothing_in(0)
             }
             Event::Dtor { .. } => {
-                self.open(call);
+                self.open(call.without_result());
                 self.nothing_in(0)
             }
             Event::Done
@@ -179,8 +179,8 @@ impl GoingsOn {
 
     /// One more call, for which there is room.
     fn open(&mut self, call: Call)
-        ensures callers { length (callers self.old) < MAX_FRAMES
-            → callers self.new ≡ call.caller ∷ callers self.old }
+        ensures calls { length (calls self.old) < MAX_FRAMES
+            → calls self.new ≡ call ∷ calls self.old }
         ensures asking { self.new.asking ≡ self.old.asking }
         ensures rooms { self.new.rooms ≡ self.old.rooms }
     {
@@ -192,9 +192,9 @@ impl GoingsOn {
     /// Takes the latest call away.
     fn take_latest(&mut self) -> Option<Call>
         ensures latest { MatchOption result
-            ((callers self.old ≡ []) × (callers self.new ≡ []))
-            (λ call. callers self.old ≡ call.caller ∷ callers self.new) }
-        ensures room { OnSome result (length (callers self.new) < MAX_FRAMES) }
+            ((calls self.old ≡ []) × (calls self.new ≡ []))
+            (λ call. calls self.old ≡ call ∷ calls self.new) }
+        ensures room { OnSome result (length (calls self.new) < MAX_FRAMES) }
         ensures asking { self.new.asking ≡ self.old.asking }
         ensures rooms { self.new.rooms ≡ self.old.rooms }
     {
@@ -206,13 +206,14 @@ impl GoingsOn {
     /// Goes on after a return of these values that this event answers, and tells what adapters
     /// wrote.
     fn after_return(&mut self, values: &[CoreValue], event: &Event) -> Written
-        ensures callers { callers self.new ≡ callers_after_return event.now (callers self.old) }
-        ensures told { IsToldAtReturn event.now (callers self.old) result.instance }
+        ensures calls { calls self.new ≡ calls_after_return event.now (calls self.old) }
+        ensures told { IsToldAtReturn event.now (calls self.old) result.instance }
         ensures asking { self.new.asking ≡ asking_by_event event.now None }
         ensures rooms { CanKeep self.old → rooms self.new ≡ rooms_left event.now
             (rooms_answered self.old.asking values.now (rooms self.old)) }
-        ensures regions { CanKeep self.old → IsEntered event.now → reverse result.regions.items
-            ≡ rooms_answered self.old.asking values.now (rooms self.old) }
+        ensures regions { CanKeep self.old → reverse result.regions.items
+            ≡ told_by_return event.now
+            (rooms_answered self.old.asking values.now (rooms self.old)) (calls self.old) }
     {
         self.take_answer(values);
         match event {
@@ -234,6 +235,7 @@ impl GoingsOn {
         ensures asking { self.new.asking ≡ None }
         ensures rooms { CanKeep self.old → rooms self.new
             ≡ rooms_answered self.old.asking values.now (rooms self.old) }
+        ensures room { CanKeep self.old → CanKeepOne self.new }
     {
         let Some(asking) = self.asking.take() else {
             return;
@@ -261,34 +263,36 @@ impl GoingsOn {
     fn keep(&mut self, room: Region)
         ensures calls { self.new.calls ≡ self.old.calls }
         ensures asking { self.new.asking ≡ self.old.asking }
-        ensures rooms { CanKeep self.old → rooms self.new ≡ room ∷ rooms self.old }
+        ensures rooms { CanKeepOne self.old → rooms self.new ≡ room ∷ rooms self.old }
+        ensures room { CanKeep self.old → CanKeepOne self.new }
     {
         let _kept = self.rooms.push(room);
     }
 
     /// The result of the latest call was handed over; the call goes on.
     fn hand_over(&mut self) -> Written
-        ensures callers { callers self.new ≡ callers self.old }
+        ensures calls { calls self.new ≡ latest_has_come (calls self.old) }
         ensures asking { self.new.asking ≡ self.old.asking }
         ensures rooms { rooms self.new ≡ [] }
-        ensures told { IsLatest (callers self.old) result.instance }
+        ensures told { IsLatest (calls self.old) result.instance }
+        ensures regions { CanKeepOne self.old → reverse result.regions.items
+            ≡ with_place (latest_place (calls self.old)) (rooms self.old) }
     {
         let Some(call) = self.take_latest() else {
             return self.tell(0);
         };
-        self.open(Call {
-            caller: call.caller,
-            result: None,
-        });
+        self.open(call.without_result());
         self.tell_result(call)
     }
 
     /// The latest call ended; its result was handed over, if that had not come before.
     fn end_latest(&mut self) -> Written
-        ensures callers { callers self.new ≡ earlier (callers self.old) }
+        ensures calls { calls self.new ≡ earlier (calls self.old) }
         ensures asking { self.new.asking ≡ self.old.asking }
         ensures rooms { rooms self.new ≡ [] }
-        ensures told { IsLatest (callers self.old) result.instance }
+        ensures told { IsLatest (calls self.old) result.instance }
+        ensures regions { CanKeepOne self.old → reverse result.regions.items
+            ≡ with_place (latest_place (calls self.old)) (rooms self.old) }
     {
         match self.take_latest() {
             Some(call) => self.tell_result(call),
@@ -302,6 +306,8 @@ impl GoingsOn {
         ensures asking { self.new.asking ≡ self.old.asking }
         ensures rooms { rooms self.new ≡ [] }
         ensures told { result.instance ≡ call.caller }
+        ensures regions { CanKeepOne self.old → reverse result.regions.items
+            ≡ with_place call.result (rooms self.old) }
     {
         if let Some(place) = call.result {
             self.keep(place);

@@ -18,7 +18,6 @@ pub use answer::{Answer, Written};
 pub use cm_abi_model::Region;
 pub use fault::LiveFault;
 pub use record::Record;
-pub use results::{ResultPlace, ResultPlaces};
 pub use served::{Served, serve};
 pub use session::Session;
 pub use written::write_answer;

@@ -1,7 +1,9 @@
 //! The moves of a session as a script.
 
-ghost use Rattle.std.specs.Prelude.{IfErr};
-ghost use Rattle.cm_live.specs.Transcripts.{IsOfNoRecord};
+ghost use Rattle.std.specs.Prelude.{◌≡◌, IfErr, OnOk, Some, true};
+ghost use Rattle.std.specs.Option.{option_map};
+ghost use Rattle.cm_live.specs.Recordings.{has_begun, recording_of};
+ghost use Rattle.cm_live.specs.Transcripts.{Admits, IsOfNoRecord, begun_after};
 
 use crate::fault::LiveFault;
 use cm_tool_script::Statement;
@@ -30,8 +32,10 @@ impl<K: Write> Record<K> {
     }
 
     /// Whether a statement can be recorded: `pages` up to the first root call.
-    pub(crate) fn admit(&self, statement: &Statement) -> Result<(), LiveFault>
-        ensures { IfErr result (λ f. IsOfNoRecord statement.now f) }
+    fn admit(&self, statement: &Statement) -> Result<(), LiveFault>
+        ensures admits { OnOk result (Admits (Some (has_begun self.now)) statement.now) }
+        ensures refused { IfErr result
+            (λ f. IsOfNoRecord (Some (has_begun self.now)) statement.now f) }
     {
         match statement {
             Statement::Pages(_) if self.pages.is_none() => Err(LiveFault::Recorded),
@@ -40,12 +44,9 @@ impl<K: Write> Record<K> {
     }
 
     /// Records a statement that was done, with its line, while this instance acted.
-    pub(crate) fn take(
-        &mut self,
-        statement: Statement,
-        line: &[u8],
-        actor: Option<u32>,
-    ) -> io::Result<()> {
+    fn take(&mut self, statement: Statement, line: &[u8], actor: Option<u32>) -> io::Result<()>
+        ensures { OnOk result (has_begun self.new ≡ begun_after statement (has_begun self.old)) }
+    {
         match statement {
             Statement::Pages(pages) => {
                 self.pages = Some(pages);
@@ -64,24 +65,26 @@ impl<K: Write> Record<K> {
     }
 
     /// Writes a line with its end.
-    fn put(&mut self, line: &[u8]) -> io::Result<()> {
+    fn put(&mut self, line: &[u8]) -> io::Result<()>
+        ensures { self.new.pages ≡ self.old.pages }
+    {
         self.out.write_all(line)
     }
 
     /// Writes the script's first line, where it is not written.
-    fn put_pages(&mut self) -> io::Result<()> {
+    fn put_pages(&mut self) -> io::Result<()>
+        ensures { has_begun self.new ≡ true }
+    {
         let Some(pages) = self.pages.take() else {
             return Ok(());
         };
-        self.out.write_all(b"pages")?;
-        for count in pages {
-            write!(self.out, " {count}")?;
-        }
-        self.out.write_all(b"\n")
+        write_pages(&mut self.out, pages)
     }
 
     /// Writes whose moves follow, where it is another's than before.
-    fn put_guest(&mut self, actor: Option<u32>) -> io::Result<()> {
+    fn put_guest(&mut self, actor: Option<u32>) -> io::Result<()>
+        ensures { self.new.pages ≡ self.old.pages }
+    {
         if self.guest == actor {
             return Ok(());
         }
@@ -96,5 +99,46 @@ impl<K: Write> Record<K> {
     pub(crate) fn finish(&mut self) -> io::Result<()> {
         self.put_pages()?;
         self.out.flush()
+    }
+}
+
+/// Writes the line `pages`.
+fn write_pages<K: Write>(out: &mut K, pages: Vec<u32>) -> io::Result<()> {
+    out.write_all(b"pages")?;
+    for count in pages {
+        write!(out, " {count}")?;
+    }
+    out.write_all(b"\n")
+}
+
+/// Whether a statement can be recorded, where a record is given.
+pub(crate) fn admit<K: Write>(
+    record: &Option<Record<K>>,
+    statement: &Statement,
+) -> Result<(), LiveFault>
+    ensures admits { OnOk result (Admits (recording_of «record».now) statement.now) }
+    ensures refused { IfErr result
+        (λ f. IsOfNoRecord (recording_of «record».now) statement.now f) }
+{
+    match record {
+        Some(record) => record.admit(statement),
+        None => Ok(()),
+    }
+}
+
+/// Records a statement that was done, with its line, while this instance acted, where a record is
+/// given.
+pub(crate) fn keep<K: Write>(
+    record: &mut Option<Record<K>>,
+    statement: Statement,
+    line: &[u8],
+    actor: Option<u32>,
+) -> io::Result<()>
+    ensures { OnOk result (recording_of «record».new
+        ≡ option_map (begun_after statement) (recording_of «record».old)) }
+{
+    match record {
+        Some(record) => record.take(statement, line, actor),
+        None => Ok(()),
     }
 }

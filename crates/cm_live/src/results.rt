@@ -1,101 +1,87 @@
 //! Where callers want results that go by memory.
 
+ghost use Rattle.std.specs.Prelude.{◌≡◌, IfOk, Some};
+ghost use Rattle.cm_machine.specs.cm_machine_model.Plan.{Link as PlannedLink, Plan};
+ghost use Rattle.cm_machine.specs.cm_machine_model.Plan.{core_func_at, lowered};
+ghost use Rattle.cm_machine_links.specs.Planned.{ArePlanned};
+ghost use Rattle.cm_machine_parts.specs.Links.{IsLinkOf};
+ghost use Rattle.cm_match.specs.Linked.{set_in};
+ghost use Rattle.cm_live.specs.Calls.{place_by, place_by_move};
+ghost use Rattle.cm_live.specs.Playing.{ArePlacesOf};
+
+use crate::goings_on::number_at;
 use cm_abi_model::Region;
-use cm_layout::{MAX_FLAT_PARAMS, MAX_FLAT_RESULTS, head, head_of_params};
-use cm_machine::Linked;
-use cm_match::{Checked, CoreFuncEntry, MadeFunc};
-use cm_types::{CoreValue, Func};
+use cm_machine::{Linked, Move};
+use cm_machine_links::{CoreFunc, Links, links_of};
+use cm_machine_parts::Link;
+use cm_types::CoreValue;
 use std::alloc::{AllocError, Global};
 
-/// Where a lowered function is told the place of its result, and how many bytes that has.
-#[derive(Clone, Copy, Debug, PartialEq, Eq)]
-pub struct ResultPlace {
-    /// Which of the core values of a call is the address, from 0.
-    pub slot: usize,
-    /// How many bytes the result has.
-    pub size: u32,
-}
-
-impl ResultPlace {
-    /// Where a function of this type is told it, where the result goes by memory: behind the core
-    /// values of the arguments, which are one pointer where there are too many (CanonicalABI.md,
-    /// "Flattening").
-    fn of(func: &Func) -> Option<ResultPlace> {
-        let Some(result) = &func.result else {
-            return None;
-        };
-        let result = head(result);
-        if result.width as usize <= MAX_FLAT_RESULTS {
-            return None;
-        }
-        let params = head_of_params(func).width as usize;
-        Some(ResultPlace {
-            slot: if params > MAX_FLAT_PARAMS { 1 } else { params },
-            size: result.size,
-        })
-    }
-
-    /// The place that these core values of a call say.
-    fn region(self, args: &[CoreValue]) -> Option<Region> {
-        match args.get(self.slot) {
-            Some(CoreValue::I32(at)) => Some(Region {
-                at: *at,
-                size: self.size,
-            }),
-            _ => None,
-        }
-    }
-}
-
-/// Where the core functions of each instance of a linked set are told the places of their results:
-/// a row an instance, in the order of the components, and in it one item a core function, by index;
-/// `None` where there is no result that goes by memory. Each instance has one component.
+/// Where the lowered functions of a linked set are told the places of their results: behind the
+/// core values of their arguments, where the result goes by memory (CanonicalABI.md, "Flattening").
 #[derive(Drop)]
 pub struct ResultPlaces {
-    rows: Vec<Vec<Option<ResultPlace>>>,
+    links: Links,
 }
 
-/// Where a component's core function is told the place of its result, where it lowers a function
-/// whose result goes by memory.
-fn place_of(checked: &Checked<'_>, index: u32) -> Option<ResultPlace> {
-    let Some(CoreFuncEntry::Made(MadeFunc::Lowered { ty, .. })) = checked.core(index) else {
-        return None;
-    };
-    let types = checked.types();
-    if ty.place >= types.func_count() {
-        return None;
+/// The bytes where a call of a lowered function with these core values wants its result; `None`
+/// where that does not go by memory.
+fn place_of(link: &Link, args: &[CoreValue]) -> Option<Region>
+    ensures { (l : PlannedLink) → IsLinkOf l link.now
+        → result ≡ place_by (Some (lowered l)) args.now }
+{
+    if link.types.has_pointer {
+        Some(Region {
+            at: number_at(args, link.types.params.kinds.len()),
+            size: link.types.results.layout.head.size,
+        })
+    } else {
+        None
     }
-    ResultPlace::of(types.func(ty.place))
-}
-
-/// Those of a component's core functions, by index.
-fn row_of(alloc: Global, checked: &Checked<'_>) -> Result<Vec<Option<ResultPlace>>, AllocError> {
-    let mut row = Vec::new(alloc);
-    let count = checked.core_func_count();
-    for index in 0..u32::try_from(count).unwrap_or(u32::MAX) {
-        row.push(place_of(checked, index))?;
-    }
-    Ok(row)
 }
 
 impl ResultPlaces {
-    /// Those of the components of a linked set. They take time as the types of its lowered
-    /// functions are long, and an item of memory for each core function.
+    /// Those of a linked set. They cost what the links of a set do: what a function passes is laid
+    /// out once for each type of a function.
     ///
     /// `AllocError` comes where there is no memory for them.
-    pub fn of(alloc: Global, linked: &Linked<'_>) -> Result<ResultPlaces, AllocError> {
-        let mut rows = Vec::new(alloc);
-        for checked in linked.components() {
-            rows.push(row_of(alloc, checked)?)?;
-        }
-        Ok(ResultPlaces { rows })
+    pub(crate) fn of(alloc: Global, linked: &Linked<'_>) -> Result<ResultPlaces, AllocError>
+        ensures { IfOk result (λ r. ArePlacesOf (set_in linked.now) r) }
+    {
+        let links = links_of(alloc, linked)?;
+        Ok(ResultPlaces { links })
     }
 
     /// The bytes where an instance wants the result of a core function that it calls with these
     /// core values; `None` where the result does not go by memory, or there is no such core
     /// function.
-    pub(crate) fn wanted(&self, instance: u32, func: u32, args: &[CoreValue]) -> Option<Region> {
-        let place = (*self.rows.get(instance as usize)?.get(func as usize)?)?;
-        place.region(args)
+    fn wanted(&self, instance: u32, func: u32, args: &[CoreValue]) -> Option<Region>
+        ensures { (p : Plan) → ArePlanned p self.now.links
+            → result ≡ place_by (core_func_at p instance func) args.now }
+    {
+        match self.links.get(instance, func) {
+            Some(CoreFunc::Lowered(link)) => place_of(link, args),
+            Some(
+                CoreFunc::Guest
+                | CoreFunc::Makes(_)
+                | CoreFunc::Drops { .. }
+                | CoreFunc::Represents(_),
+            )
+            | None => None,
+        }
+    }
+
+    /// The bytes where an instance wants the result of a call that it makes; `None` where its move
+    /// is none, or the result does not go by memory.
+    pub(crate) fn wanted_by(&self, instance: u32, made: &Move) -> Option<Region>
+        ensures { (p : Plan) → ArePlanned p self.now.links
+            → result ≡ place_by_move p instance made.now }
+    {
+        match made {
+            Move::Call { func, args } => self.wanted(instance, *func, args),
+            Move::Return { .. } | Move::Write { .. } | Move::Grow { .. } | Move::Unreachable => {
+                None
+            }
+        }
     }
 }

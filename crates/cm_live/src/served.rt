@@ -1,16 +1,17 @@
 //! A session over a reader and a writer.
 
-ghost use Rattle.std.specs.Prelude.{◌≡◌, ◌-◌, ◌<◌, ◌^◌, ℕ, List, true};
+ghost use Rattle.std.specs.Prelude.{◌≡◌, ◌-◌, ◌<◌, ◌^◌, ℕ, List, [], codes};
 ghost use Rattle.std.specs.Prelude.{IfErr, IfOk, OnOk};
 ghost use Rattle.std.specs.Io.KnownBytes.{Consumes};
+ghost use Rattle.cm_live.specs.Recordings.{recording_of};
 ghost use Rattle.cm_live.specs.Sessions.{linked_of, set_of};
-ghost use Rattle.cm_live.specs.Tallies.{Counts, IsEndOf, IsRefusal, ReadsNext};
-ghost use Rattle.cm_live.specs.Transcripts.{AreRead, AreReadAtLeast, Ends, IsOfNoStatement, Leads};
-ghost use Rattle.cm_live.specs.Transcripts.{LineDoes, Reply, ServedLine, done, is_whole};
+ghost use Rattle.cm_live.specs.Tallies.{Answers, Counts, IsEndOf, IsRefusal, ReadsNext};
+ghost use Rattle.cm_live.specs.Transcripts.{IsLineOf, IsOfNoStatement, LineDoes, Reply, Serves};
+ghost use Rattle.cm_live.specs.Transcripts.{done, streams};
 
 use crate::answer::Answer;
 use crate::fault::{LiveFault, write_refusal};
-use crate::record::Record;
+use crate::record::{Record, admit, keep};
 use crate::session::Session;
 use crate::written::write_answer;
 use cm_machine::Event;
@@ -86,12 +87,10 @@ pub fn serve<R: BufRead, W: Write, K: Write>(
     limit: u64,
 ) -> io::Result<Served>
     ensures linked { linked_of session.new ≡ linked_of session.old }
-    // Lines lead from the set to the new one; they are what was read; and serving ends behind them.
-    ensures served { (ls : List ServedLine)
-        × Leads (linked_of session.old) (set_of session.old) limit ls (set_of session.new)
-        × AreReadAtLeast (R.remaining reader.old) ls (R.remaining reader.new)
-        × IfOk result (λ s. AreRead (R.remaining reader.old) ls (R.remaining reader.new)
-        × Ends s limit (R.remaining reader.old) ls (R.remaining reader.new)) }
+    ensures served { Serves (linked_of session.old) (recording_of «record».old) limit
+        (codes "ready\n") (set_of session.old)
+        (streams (R.remaining reader.old) (W.contents writer.old)) result
+        (set_of session.new) (streams (R.remaining reader.new) (W.contents writer.new)) }
 {
     writer.write_all(b"ready\n")?;
     writer.flush()?;
@@ -113,11 +112,9 @@ fn serve_lines<R: BufRead, W: Write, K: Write>(
     limit: u64,
 ) -> io::Result<Served>
     ensures linked { linked_of session.new ≡ linked_of session.old }
-    ensures served { (ls : List ServedLine)
-        × Leads (linked_of session.old) (set_of session.old) limit ls (set_of session.new)
-        × AreReadAtLeast (R.remaining reader.old) ls (R.remaining reader.new)
-        × IfOk result (λ s. AreRead (R.remaining reader.old) ls (R.remaining reader.new)
-        × Ends s limit (R.remaining reader.old) ls (R.remaining reader.new)) }
+    ensures served { Serves (linked_of session.old) (recording_of «record».old) limit []
+        (set_of session.old) (streams (R.remaining reader.old) (W.contents writer.old)) result
+        (set_of session.new) (streams (R.remaining reader.new) (W.contents writer.new)) }
 {
     let mut tally = Tally {
         moves: 0,
@@ -159,17 +156,17 @@ fn serve_line<W: Write, K: Write>(
 ) -> io::Result<()>
     requires { tally.old.moves < 2 ^ 64 - 1 }
     ensures served { (r : Reply)
-        × LineDoes (linked_of session.old) (set_of session.old) line.now r (set_of session.new)
-        × Counts tally.old r tally.new }
+        × LineDoes (linked_of session.old) (recording_of «record».old) (set_of session.old)
+        line.now r (set_of session.new) × Counts tally.old r tally.new
+        × OnOk result (Answers (set_of session.new) r (recording_of «record».old)
+        (recording_of «record».new) (W.contents writer.old) (W.contents writer.new)) }
     ensures linked { linked_of session.new ≡ linked_of session.old }
 {
     let actor = session.acting();
     match do_line(alloc, session, line, record) {
         Ok((statement, answer)) => {
             tally.add(&statement, &answer);
-            if let Some(record) = record {
-                record.take(statement, line, actor)?;
-            }
+            keep(record, statement, line, actor)?;
             write_answer(writer, session, &answer)
         }
         Err(fault) => write_refusal(writer, fault, line),
@@ -183,23 +180,21 @@ fn do_line<K: Write>(
     line: &[u8],
     record: &Option<Record<K>>,
 ) -> Result<(Statement, Answer), LiveFault>
-    ensures does { IfOk result (λ d. LineDoes (linked_of session.old) (set_of session.old) line.now
-        (done d.0 d.1) (set_of session.new)) }
-    ensures refused { IfErr result (λ f. IsRefusal (linked_of session.old) (set_of session.old)
-        line.now f (set_of session.new)) }
+    ensures does { IfOk result (λ d. LineDoes (linked_of session.old) (recording_of «record».now)
+        (set_of session.old) line.now (done d.0 d.1) (set_of session.new)) }
+    ensures refused { IfErr result (λ f. IsRefusal (linked_of session.old)
+        (recording_of «record».now) (set_of session.old) line.now f (set_of session.new)) }
     ensures linked { linked_of session.new ≡ linked_of session.old }
 {
     let statement = statement_of(alloc, line)?;
-    if let Some(record) = record {
-        record.admit(&statement)?;
-    }
+    admit(record, &statement)?;
     let answer = session.act(&statement)?;
     Ok((statement, answer))
 }
 
 /// The statement of a line with its end.
 fn statement_of(alloc: Global, line: &[u8]) -> Result<Statement, LiveFault>
-    ensures whole { OnOk result (is_whole line.now ≡ true) }
+    ensures spelled { IfOk result (λ s. IsLineOf line.now s) }
     ensures refused { IfErr result (λ f. IsOfNoStatement line.now f) }
 {
     let [content @ .., b'\n'] = line else {

@@ -1,6 +1,7 @@
 //! A linked set that is played statement by statement.
 
-ghost use Rattle.std.specs.Prelude.{◌≡◌, IfErr, IfOk, OnErr};
+ghost use Rattle.std.specs.Prelude.{◌≡◌, IfErr, IfOk, OnErr, slice_get};
+ghost use Rattle.std.specs.Option.{option_copied};
 ghost use Rattle.cm_machine.specs.cm_machine_set.Running.{IsNew};
 ghost use Rattle.cm_match.specs.Linked.{set_in};
 ghost use Rattle.cm_live.specs.Mirrors.{KeepsMirrors};
@@ -10,18 +11,15 @@ ghost use Rattle.cm_live.specs.Statements.{Does, IsOfNoSet, IsRefusedFor};
 use crate::answer::Answer;
 use crate::fault::LiveFault;
 use crate::playing::Playing;
-use crate::results::ResultPlaces;
-use cm_machine::{Linked, Misuse, Move};
+use cm_machine::{Linked, Misuse};
 use cm_tool_script::Statement;
-use std::alloc::{AllocError, Global};
+use std::alloc::Global;
 
-/// A linked set that is played, and where its callers want results.
+/// A linked set that is played.
 #[derive(Drop)]
 pub struct Session<'c, 'a> {
     alloc: Global,
-    linked: &'c Linked<'a>,
-    results: ResultPlaces,
-    playing: Playing,
+    playing: Playing<'c, 'a>,
 }
 
 impl<'c, 'a> Session<'c, 'a> {
@@ -37,16 +35,7 @@ impl<'c, 'a> Session<'c, 'a> {
         ensures linked { IfOk result (λ s. linked_of s ≡ set_in linked.now) }
     {
         let playing = Playing::new(alloc, linked, pages)?;
-        let results = match ResultPlaces::of(alloc, linked) {
-            Ok(results) => results,
-            Err(AllocError) => return Err(Misuse::Memory),
-        };
-        Ok(Session {
-            alloc,
-            linked,
-            results,
-            playing,
-        })
+        Ok(Session { alloc, playing })
     }
 
     /// The instance whose move is next, or `None` where no call is on the stack.
@@ -55,7 +44,9 @@ impl<'c, 'a> Session<'c, 'a> {
     }
 
     /// The bytes of an instance's memory, or `None` where there is no such instance.
-    pub fn memory(&self, instance: u32) -> Option<&[u8]> {
+    pub fn memory(&self, instance: u32) -> Option<&[u8]>
+        ensures { option_copied result ≡ slice_get (set_of self.now).state.memories instance }
+    {
         self.playing.memory(instance)
     }
 
@@ -79,7 +70,7 @@ impl<'c, 'a> Session<'c, 'a> {
             Statement::Pages(pages) => self.start(pages),
             Statement::Guest(_) => Err(LiveFault::Guest),
             Statement::Begin(root) => self.playing.begin(*root),
-            Statement::Move(made) => self.playing.step(&self.results, made),
+            Statement::Move(made) => self.playing.step(made),
         }
     }
 
@@ -91,11 +82,8 @@ impl<'c, 'a> Session<'c, 'a> {
         ensures stays { OnErr result (set_of self.new ≡ set_of self.old) }
         ensures linked { linked_of self.new ≡ linked_of self.old }
     {
-        match Playing::new(self.alloc, self.linked, pages) {
-            Ok(playing) => {
-                self.playing = playing;
-                Ok(Answer::Ready)
-            }
+        match self.playing.restart(self.alloc, pages) {
+            Ok(()) => Ok(Answer::Ready),
             Err(misuse) => Err(LiveFault::Misuse(misuse)),
         }
     }

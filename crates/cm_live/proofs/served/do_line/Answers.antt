@@ -16,7 +16,7 @@ returns-in_err-admit-clause-refused g c =
     rw (p.1, p.2) (
       refused c.in_ok-statement.statement c.in_err-admit.field-0.0,
       refl,
-      (c.in_ok-statement.ensures.whole, inr c.in_err-admit.ensures, refl),
+      (c.in_ok-statement.ensures.spelled, inr c.in_err-admit.ensures.refused, refl),
     )
 
 pub returns-in_err-answer-clause-refused : goal.returns-in_err-answer-clause-refused
@@ -27,7 +27,7 @@ returns-in_err-answer-clause-refused g c =
       refused c.in_ok-statement.statement c.in_err-answer.field-0.0,
       refl,
       (
-        c.in_ok-statement.ensures.whole,
+        c.in_ok-statement.ensures.spelled,
         inl c.in_err-answer.ensures.refused,
         c.in_err-answer.ensures.stays,
       ),

@@ -1,4 +1,5 @@
 use Rattle.std.proofs.Math.Logic.{∥∥₁_map}
+use Rattle.cm_match.specs.Linked.{set_in}
 use Rattle.cm_live.proofs.MirrorLaws.{Laws, begin_either}
 use Rattle.cm_live.proofs.playing.Playing.begin.Goals as goal
 
@@ -15,12 +16,15 @@ invariant_of-self c =
       ends = e.ends;
       entries = e.entries;
       memory = e.memory;
+      refusals = e.refusals;
+      resumptions = e.resumptions;
       one = c.denotations_are_unique.ensures.denoted;
     } in
     let b = c.begin.ensures in
     let old = c.args.self.now in
     record {
+      places = old.places;
       played = ∥∥₁_map old.played
-          (begin_either old.set old.going c.args.root c.begin.result c.begin.new.self laws b.history
-          b.err b.planned);
+          (begin_either (set_in old.linked.now) old.set old.going c.args.root c.begin.result
+          c.begin.new.self laws b.history b.err b.planned);
     }
