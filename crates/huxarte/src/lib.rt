@@ -76,8 +76,8 @@ pub mod wit {
     };
 }
 
-/// Values of components: their types, their place in memory, their texts and handles, and what
-/// lifts and lowers them.
+/// Values of components: their types, their place in memory, their texts and handles, what lifts
+/// and lowers them, and themselves as text, printed and parsed by their types.
 pub mod values {
     pub use cm_abi::{
         AbiFault, Encodings, Found, HandleLeaf, HandleValue, Lifted, PartKind, PartRecord, Passed,
@@ -97,6 +97,7 @@ pub mod values {
         Case, CoreKind, CoreValue, Field, Func, ResourceId, TypeFault, TypeNode, TypeTree, Value,
         has_type,
     };
+    pub use cm_values::{PrintFault, ValueFault, ValueReason, parse, print};
 }
 
 /// Components that stand in for a host: what others import, or what one exports.

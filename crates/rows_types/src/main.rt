@@ -1,4 +1,4 @@
-//! Answers rows on numbers, names, types, layouts, texts and handle tables.
+//! Answers rows on numbers, names, types, values as text, layouts, texts and handle tables.
 #![tactic(auto)]
 
 mod candidates;
@@ -11,6 +11,7 @@ mod runs;
 mod texts;
 mod type_numbers;
 mod types;
+mod value_texts;
 mod values;
 
 use cm_rows::{Driver, Line, answer_families, word, words_from};
@@ -20,7 +21,7 @@ use std::io;
 use std::process::ExitCode;
 
 /// The families of rows, a file each.
-const FAMILIES: [&str; 9] = [
+const FAMILIES: [&str; 10] = [
     "numbers",
     "names",
     "types",
@@ -30,6 +31,7 @@ const FAMILIES: [&str; 9] = [
     "placed",
     "type_numbers",
     "candidates",
+    "value_texts",
 ];
 
 /// The state between rows: the handle table that the rows on handles speak of.
@@ -56,6 +58,7 @@ impl Driver for TypeRows {
             "table" => self.handles.answer(alloc, rest, line),
             "types" => placed::answer(alloc, rest, line),
             "numbers" => type_numbers::answer(alloc, rest, line),
+            "value" => value_texts::answer(alloc, rest, line),
             "fit" => candidates::answer(alloc, rest, line),
             _ => line.refuse(),
         }

@@ -1,0 +1,13 @@
+pub mod Tools
+pub mod GrammarLaws
+pub mod StepLaws
+pub mod RunLaws
+pub mod NumberLaws
+pub mod CharLaws
+pub mod NameLaws
+pub mod WordLaws
+pub mod ValueLaws
+pub mod LoopLaws
+pub mod WholeLaws
+pub mod CaseReads
+pub mod TextLaws

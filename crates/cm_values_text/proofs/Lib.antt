@@ -1,0 +1,3 @@
+pub mod ListLaws
+pub mod BitLaws
+pub mod CaseLaws
