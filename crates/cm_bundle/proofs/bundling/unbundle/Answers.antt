@@ -1,0 +1,8 @@
+use Rattle.cm_bundle.specs.Bundled.{bundle_of}
+use Rattle.cm_bundle.proofs.Kept.{files_read}
+use Rattle.cm_bundle.proofs.bundling.unbundle.Goals as goal
+
+pub returns-clause-files : goal.returns-clause-files
+returns-clause-files c =
+    λ set files exporter b e. files_read c.read.result set files exporter
+    (c.read.ensures.only (bundle_of set files exporter) b e)

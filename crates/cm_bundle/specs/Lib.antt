@@ -1,0 +1,4 @@
+pub mod Bundled
+pub mod Refusals
+pub mod Serving
+pub mod Texts

@@ -1,0 +1,123 @@
+//! Bundles of linked sets, written and read back.
+
+ghost use Rattle.std.specs.Prelude.{◌≡◌, ◌⊎◌, List, ℕ, length, map, IfOk, IfErr};
+ghost use Rattle.cm_validate_model.specs.Spaces.{Spaces};
+ghost use Rattle.cm_match.specs.Linked.{set_in};
+ghost use Rattle.cm_bundle_form.specs.Answers.{Accepts, Refuses};
+ghost use Rattle.cm_bundle_form.specs.Grammar.{FirstFault};
+ghost use Rattle.cm_bundle_form.specs.Spelled.{IsBundle, spelled};
+ghost use Rattle.cm_bundle_form.specs.Trees.{bundle_tree};
+ghost use Rattle.cm_bundle_form.specs.declared.fault.BundleReason.{BundleReason};
+ghost use Rattle.cm_bundle_form.specs.declared.fault.BundleReason.TheVariants as reasons;
+ghost use Rattle.cm_bundle.specs.Bundled.{bundle_of};
+ghost use Rattle.cm_bundle.specs.Refusals.{AreComplete, IsRefused, IsWritten};
+ghost use Rattle.cm_bundle.specs.declared.bundling.BundlingFault.TheVariants as faults;
+
+use crate::parts::bundle_of;
+use cm_bundle_form::{Bundle, BundleFault, WriteFault, read, write};
+use cm_match::Linked;
+use std::alloc::{AllocError, AllocFailed, Global};
+use thiserror::Error;
+
+/// Why a linked set is not bundled.
+#[derive(Clone, Copy, Debug, PartialEq, Eq, Drop, Error)]
+pub enum BundlingFault {
+    /// There are more or fewer files than components.
+    #[error("not a file for each component")]
+    OtherFiles,
+    /// The set has no component of this number.
+    #[error("no component of this number")]
+    NoSuchComponent,
+    /// The bundle takes more than 4,294,967,295 bytes.
+    #[error("more than 4294967295 bytes")]
+    TooLong,
+    /// There was no memory for it.
+    #[error("no memory")]
+    Memory,
+}
+
+impl From<AllocError> for BundlingFault {
+    ghost from_gives = { λ _ e. e ≡ faults.Memory };
+
+    fn from(_e: AllocError) -> BundlingFault {
+        BundlingFault::Memory
+    }
+}
+
+/// The bundle of a linked set, as a file: each of these files, which are those of its components in
+/// their order, stands in it byte for byte; each import is given the export that it is linked to,
+/// under the import's name; and the bundle exports what the component `exporter` does, counted
+/// from 0. Each file is copied once.
+///
+/// `OtherFiles` comes first, then `NoSuchComponent`; no memory is taken before these. `TooLong`
+/// comes where the bundle would have more bytes than a file may have.
+pub fn bundle(
+    alloc: Global,
+    linked: &Linked<'_>,
+    files: &[&[u8]],
+    exporter: usize,
+) -> Result<Vec<u8>, BundlingFault>
+    ensures complete { IfOk result (λ _.
+        AreComplete (set_in linked.now) (map (λ f. f.now) files.now) exporter) }
+    ensures spelled { IfOk result (λ v. v.items
+        ≡ spelled (bundle_of (set_in linked.now) (map (λ f. f.now) files.now) exporter)) }
+    ensures bundle { IfOk result (λ _.
+        IsBundle (bundle_of (set_in linked.now) (map (λ f. f.now) files.now) exporter)) }
+    ensures refused { IfErr result (λ e.
+        IsRefused e (set_in linked.now) (map (λ f. f.now) files.now) exporter) }
+{
+    write_set(alloc, linked, files, exporter)
+}
+
+/// The same, with what it promises of the file as one fact.
+fn write_set(
+    alloc: Global,
+    linked: &Linked<'_>,
+    files: &[&[u8]],
+    exporter: usize,
+) -> Result<Vec<u8>, BundlingFault>
+    ensures written { IfOk result (λ v.
+        IsWritten (set_in linked.now) (map (λ f. f.now) files.now) exporter v.items) }
+    ensures refused { IfErr result (λ e.
+        IsRefused e (set_in linked.now) (map (λ f. f.now) files.now) exporter) }
+{
+    let count = linked.components().len();
+    if files.len() != count {
+        return Err(BundlingFault::OtherFiles);
+    }
+    if count <= exporter {
+        return Err(BundlingFault::NoSuchComponent);
+    }
+    let bundle = bundle_of(alloc, linked, files, exporter)?;
+    match write(alloc, &bundle) {
+        Ok(file) => Ok(file),
+        Err(WriteFault::TooLong) => Err(BundlingFault::TooLong),
+        Err(WriteFault::Memory) => Err(BundlingFault::Memory),
+        Err(WriteFault::TooManyParts) => unreachable!(),
+        Err(WriteFault::NoSuchPart) => unreachable!(),
+    }
+}
+
+/// Reads a bundle: the files of its set, none copied, what each is given, and what is exported.
+/// [`BundleReason`](cm_bundle_form::BundleReason) says at which byte each fault is.
+pub fn unbundle(alloc: Global, bytes: &[u8]) -> Result<Bundle<'_>, BundleFault>
+    // What is read is a bundle, and these bytes are its spelling.
+    ensures bundle { IfOk result (λ b. IsBundle (bundle_tree b)) }
+    ensures spelled { IfOk result (λ b. bytes.now ≡ spelled (bundle_tree b)) }
+    // A bundle of a set is read as that, unless memory runs out: its files, and its plan by names.
+    ensures whole { (set : List Spaces) (files : List (List ℕ)) (exporter : ℕ)
+        → IsBundle (bundle_of set files exporter)
+        → bytes.now ≡ spelled (bundle_of set files exporter)
+        → Accepts result (bundle_of set files exporter) }
+    ensures files { (set : List Spaces) (files : List (List ℕ)) (exporter : ℕ)
+        → IsBundle (bundle_of set files exporter)
+        → bytes.now ≡ spelled (bundle_of set files exporter)
+        → IfOk result (λ b. map (λ p. p.file.now) b.parts.items ≡ files) }
+    // A fault is the first one, at its place, and the first fault is given.
+    ensures fault { IfErr result
+        (λ f. (f.reason ≡ reasons.Memory) ⊎ FirstFault bytes.now f.at f.reason) }
+    ensures first { (at : ℕ) (reason : BundleReason) → FirstFault bytes.now at reason
+        → Refuses result at reason }
+{
+    read(alloc, bytes)
+}

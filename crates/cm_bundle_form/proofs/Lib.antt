@@ -1,0 +1,15 @@
+pub mod TextLaws
+pub mod MeasuredLaws
+pub mod LawfulBundle
+pub mod Shortest
+pub mod Places
+pub mod EitherCode
+pub mod SpellingIs
+pub mod BundleIs
+pub mod WrittenBundle
+pub mod Loops
+pub mod Items
+pub mod Counting
+pub mod Earlier
+pub mod Refusing
+pub mod ReadLaws

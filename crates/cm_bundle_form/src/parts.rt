@@ -1,0 +1,93 @@
+//! Parts, and the exports behind them.
+
+ghost use Rattle.std.specs.Prelude.{◌≡◌, ◌+◌, ◌≤◌, ◌<◌, ◌*◌, ◌^◌, length, map, IfOk};
+ghost use Rattle.cm_binary_grammar.specs.Reading.{Reads};
+ghost use Rattle.cm_bundle_form.specs.Grammar.{part, exports, body};
+ghost use Rattle.cm_bundle_form.specs.Room.{ReadsPart};
+ghost use Rattle.cm_bundle_form.specs.Spelled.{Spaces, no_spaces};
+ghost use Rattle.cm_bundle_form.specs.Trees.{bundle_tree, supply_tree};
+
+use crate::aliases::read_aliases;
+use crate::bundle::{Bundle, MAX_PARTS, Part, Sort, Supply};
+use crate::codes::Next;
+use crate::fault::BundleReason;
+use crate::numbers::read_bytes;
+use crate::spaces::Counts;
+use crate::supplies::{read_export_section, read_instances};
+use cm_binary_grammar::{Cursor, ReadError};
+use std::alloc::Global;
+
+/// Reads a part behind the id of its first section, and counts what it adds to the index spaces.
+#[tactic(auto, unfolding(crate::specs::Grammar::part))]
+fn read_part<'a>(
+    alloc: Global,
+    bytes: &mut Cursor<'a, BundleReason>,
+    counts: Counts,
+    places: &[u64],
+) -> Result<(Part<'a>, Counts), ReadError<BundleReason>>
+    requires functions { counts.functions < 2 ^ 62 }
+    requires instances { counts.instances < 2 ^ 62 }
+    ensures read { ReadsPart counts places.now bytes.old bytes.new result }
+    ensures end { bytes.new.end ≡ bytes.old.end }
+    ensures functions { IfOk result (λ x. x.1.functions < counts.functions + 2 ^ 32) }
+    ensures instances { IfOk result (λ x. x.1.instances < counts.instances + 2 ^ 32) }
+{
+    let file = read_bytes(bytes)?;
+    bytes.byte(0x06, BundleReason::UnknownCode)?;
+    let aliased = read_aliases(alloc, bytes, places)?;
+    bytes.byte(0x05, BundleReason::UnknownCode)?;
+    let arguments = read_instances(alloc, bytes, places.len(), counts, &aliased)?;
+    let counts = counts.all_counted(&arguments);
+    Ok((Part { file, arguments }, counts))
+}
+
+/// Reads the exports behind the id of their first section.
+#[tactic(auto, unfolding(crate::specs::Grammar::exports))]
+fn read_exports<'a>(
+    alloc: Global,
+    bytes: &mut Cursor<'a, BundleReason>,
+    counts: Counts,
+    places: &[u64],
+) -> Result<Vec<Supply<'a>>, ReadError<BundleReason>>
+    requires functions { counts.functions < 2 ^ 62 }
+    requires instances { counts.instances < 2 ^ 62 }
+    ensures read { let s : Spaces = record { counts = counts; places = places.now } in
+        Reads (exports s) (λ v. map supply_tree v.items) bytes.old bytes.new result }
+    ensures end { bytes.new.end ≡ bytes.old.end }
+{
+    let aliased = read_aliases(alloc, bytes, places)?;
+    bytes.byte(0x0b, BundleReason::UnknownCode)?;
+    read_export_section(alloc, bytes, counts, &aliased)
+}
+
+/// Reads parts, and the exports behind them.
+pub fn read_body<'a>(
+    alloc: Global,
+    bytes: &mut Cursor<'a, BundleReason>,
+) -> Result<Bundle<'a>, ReadError<BundleReason>>
+    ensures read { Reads (body (MAX_PARTS + 1) no_spaces) bundle_tree bytes.old bytes.new result }
+    ensures end { bytes.new.end ≡ bytes.old.end }
+{
+    let mut counts = Counts {
+        functions: 0,
+        instances: 0,
+    };
+    let mut places = Vec::new(alloc);
+    let mut parts = Vec::new(alloc);
+    for _ in 0..MAX_PARTS + 1 {
+        let next: Next = bytes.code()?;
+        match next {
+            Next::Exports => {
+                let exports = read_exports(alloc, bytes, counts, &places)?;
+                return Ok(Bundle { parts, exports });
+            }
+            Next::Part => {
+                let (part, aliased) = read_part(alloc, bytes, counts, &places)?;
+                parts.push(part)?;
+                places.push(aliased.instances)?;
+                counts = aliased.counted(Sort::Instance);
+            }
+        }
+    }
+    Err(bytes.fault(BundleReason::TooManyParts))
+}
