@@ -1,12 +1,13 @@
 //! The commands.
 
+use crate::bundling::{run_link, run_plug, run_unbundle};
 use crate::conforming::conform;
 use crate::core_lines::core_text;
 use crate::ending::Ending;
 use crate::fault::{Fault, report};
 use crate::living::run_live;
 use crate::loading::load_file;
-use crate::playing::{run_link, run_play};
+use crate::playing::run_play;
 use crate::streams::Streams;
 use crate::stubbing::run_stub;
 use cm_hux_show::{ShowFault, show_world};
@@ -75,7 +76,17 @@ fn run<'a, F: Files, S: Streams, O: Write, E: Write>(
             conform(alloc, Asked { wit, world, file }, files)?;
             print(out, "ok\n")
         }
-        Request::Link { files: names } => run_link(alloc, names.as_slice(), files, out),
+        Request::Link {
+            files: names,
+            bundle,
+        } => run_link(alloc, names.as_slice(), bundle, files, streams, out),
+        Request::Unbundle { file, folder } => {
+            run_unbundle(alloc, file, folder, files, streams, out)
+        }
+        Request::Plug {
+            files: names,
+            bundle,
+        } => run_plug(alloc, names.as_slice(), bundle, files, streams, out),
         Request::Play {
             script,
             files: names,

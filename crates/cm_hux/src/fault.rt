@@ -8,6 +8,7 @@ ghost use Rattle.cm_hux.specs.declared.fault.Fault.TheVariants as fault;
 
 use crate::ending::Ending;
 use cm_binary_model::LimitFault;
+use cm_hux_bundles::Trouble;
 use cm_shims::{FitFault, PlainFault};
 use cm_stubs::StubFault;
 use cm_tool::{Fault as ToolFault, FileReason};
@@ -29,6 +30,8 @@ pub enum Fault<'a> {
     Unmet { name: &'a str, fault: FitFault },
     /// No stub is made.
     Stub(StubFault),
+    /// A bundle is not made or taken.
+    Bundle(Trouble<'a>),
     /// A file cannot be written.
     Unwritten { name: &'a str },
     /// What `live` reads from or writes to failed, or there was no memory for a line.
@@ -55,6 +58,7 @@ impl Fault<'_> {
             | Fault::Limit { .. }
             | Fault::Unmet { .. }
             | Fault::Stub(_)
+            | Fault::Bundle(_)
             | Fault::Moves { .. }
             | Fault::Memory => Ending::Refused,
             Fault::Unwritten { .. } | Fault::Streams | Fault::Output => Ending::Unread,
@@ -102,6 +106,15 @@ impl<'a> From<ToolFault<'a>> for Fault<'a> {
     }
 }
 
+impl<'a> From<Trouble<'a>> for Fault<'a> {
+    fn from(trouble: Trouble<'a>) -> Self {
+        match trouble {
+            Trouble::Memory => Fault::Memory,
+            _ => Fault::Bundle(trouble),
+        }
+    }
+}
+
 impl From<AllocError> for Fault<'_> {
     ghost from_gives = { λ _ f. f ≡ fault.Memory };
 
@@ -134,6 +147,7 @@ impl fmt::Display for Fault<'_> {
             Fault::Limit { name, fault } => write!(f, "{}: {fault}", Escaped(name)),
             Fault::Unmet { name, fault } => write!(f, "{}: {fault}", Escaped(name)),
             Fault::Stub(fault) => write!(f, "{fault}"),
+            Fault::Bundle(trouble) => write!(f, "{trouble}"),
             Fault::Unwritten { name } => {
                 write!(f, "{}: Write: it cannot be written", Escaped(name))
             }

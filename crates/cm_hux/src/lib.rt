@@ -3,6 +3,7 @@
 //! Each reads component files that may have shims, as the standard tool chain writes them.
 #![tactic(auto)]
 
+mod bundling;
 mod commands;
 mod conforming;
 mod core_lines;

@@ -24,7 +24,7 @@ pub(crate) fn run_live<'a, F: Files, S: Streams, O: Write>(
     out: &mut O,
 ) -> Result<Ending, Fault<'a>> {
     let limit = limit_of(alloc, choices)?;
-    let (loaded, unread) = load_files(alloc, files, names)?;
+    let (loaded, unread) = load_files(alloc, files, names);
     let linked = loaded.link(alloc, unread)?;
     let pages = pages(alloc, choices, &linked)?;
     let mut session = session(alloc, &linked, &pages)?;

@@ -9,6 +9,7 @@ ghost use Rattle.cm_shims.specs.Fitting.{AllHold};
 use crate::fault::Fault;
 use cm_binary_forms::DecodeFault;
 use cm_binary_model::Component;
+use cm_hux_bundles::{PART_NAMES, bundle_in, check_links};
 use cm_shims::{Place, ShimFault, Shimmed, fits, read};
 use cm_tool::{
     BadFile, Checked, Fault as ToolFault, FileReason, Files, LinkFault, Linked, MAX_COMPONENTS,
@@ -52,6 +53,18 @@ fn not_decoded<'a>(alloc: Global, name: &'a str, bytes: &[u8], fault: DecodeFaul
     of_file(bad, kept(alloc, bytes_help(alloc, bytes, fault)))
 }
 
+/// The bytes of the file of this name.
+pub(crate) fn read_bytes<'a, F: Files>(
+    alloc: Global,
+    files: &mut F,
+    name: &'a str,
+) -> Result<Vec<u8>, Fault<'a>> {
+    match read_file(alloc, files, name) {
+        Ok(bytes) => Ok(bytes),
+        Err(bad) => Err(of_file(bad, String::new(alloc))),
+    }
+}
+
 /// What the file of this name stands for, which may have shims: what `cm_shims::read` answers for
 /// its bytes.
 pub fn load_file<'a, F: Files>(
@@ -62,10 +75,14 @@ pub fn load_file<'a, F: Files>(
     ensures name { IfOk result (λ l. l.name ≡ name.entry) }
     ensures read { IfOk result (λ l. IsReadAs l.bytes.items (outcome (Ok l.shimmed))) }
 {
-    let bytes = match read_file(alloc, files, name) {
-        Ok(bytes) => bytes,
-        Err(bad) => return Err(of_file(bad, String::new(alloc))),
-    };
+    load_bytes(alloc, name, read_bytes(alloc, files, name)?)
+}
+
+/// The same of a file with these bytes.
+fn load_bytes<'a>(alloc: Global, name: &'a str, bytes: Vec<u8>) -> Result<Loaded<'a>, Fault<'a>>
+    ensures name { IfOk result (λ l. l.name ≡ name.entry) }
+    ensures read { IfOk result (λ l. IsReadAs l.bytes.items (outcome (Ok l.shimmed))) }
+{
     match read(alloc, bytes.as_slice()) {
         Ok(shimmed) => Ok(Loaded {
             name,
@@ -130,37 +147,100 @@ impl<'a> Loaded<'a> {
     }
 }
 
+/// The name that `unbundle` gives the file of this number; none where a set may not have so many
+/// and one more.
+fn part_name(number: usize) -> Option<&'static str> {
+    PART_NAMES.get(number).copied()
+}
+
 /// What some files stand for, in order: those before the first that cannot be read.
 #[derive(Drop)]
 pub(crate) struct LoadedFiles<'a> {
     loaded: Vec<Loaded<'a>>,
     /// How many files there are.
     count: usize,
+    /// The bundle whose files they are, by its name and its bytes; none where they are files of
+    /// their own.
+    bundle: Option<(&'a str, Vec<u8>)>,
 }
 
 /// These files, which are read in order, up to the first that cannot be, with its fault, where
 /// there is one. Where there are more than a set may have, one more than that is read, and the
-/// others are not.
+/// others are not. For a bundle that is the only one its files stand, under the names that
+/// `unbundle` gives them.
 pub(crate) fn load_files<'a, F: Files>(
     alloc: Global,
     files: &mut F,
     names: &[&'a str],
-) -> Result<(LoadedFiles<'a>, Option<Fault<'a>>), AllocError> {
-    let count = names.len();
-    let mut loaded = Vec::with_capacity(alloc, count.min(MAX_COMPONENTS + 1))?;
-    for name in names.iter().take(MAX_COMPONENTS + 1) {
-        match load_file(alloc, files, name) {
-            Ok(file) => loaded.push(file)?,
-            Err(unread) => return Ok((LoadedFiles { loaded, count }, Some(unread))),
-        }
-    }
-    Ok((LoadedFiles { loaded, count }, None))
+) -> (LoadedFiles<'a>, Option<Fault<'a>>) {
+    let mut loaded = LoadedFiles {
+        loaded: Vec::new(alloc),
+        count: names.len(),
+        bundle: None,
+    };
+    let read = match names {
+        [name] => loaded.load_alone(alloc, files, name),
+        _ => loaded.load_each(alloc, files, names),
+    };
+    (loaded, read.err())
 }
 
 impl<'a> LoadedFiles<'a> {
+    fn load_each<F: Files>(
+        &mut self,
+        alloc: Global,
+        files: &mut F,
+        names: &[&'a str],
+    ) -> Result<(), Fault<'a>> {
+        for name in names.iter().take(MAX_COMPONENTS + 1) {
+            self.loaded.push(load_file(alloc, files, name)?)?;
+        }
+        Ok(())
+    }
+
+    fn load_alone<F: Files>(
+        &mut self,
+        alloc: Global,
+        files: &mut F,
+        name: &'a str,
+    ) -> Result<(), Fault<'a>> {
+        let bytes = read_bytes(alloc, files, name)?;
+        if self.load_parts(alloc, &bytes)? {
+            self.bundle = Some((name, bytes));
+        } else {
+            self.loaded.push(load_bytes(alloc, name, bytes)?)?;
+        }
+        Ok(())
+    }
+
+    /// Loads the files of a bundle, and answers whether these bytes are one.
+    fn load_parts(&mut self, alloc: Global, bytes: &[u8]) -> Result<bool, Fault<'a>> {
+        let Some(bundle) = bundle_in(alloc, bytes)? else {
+            return Ok(false);
+        };
+        self.count = bundle.parts.len();
+        for (number, part) in bundle.parts.iter().enumerate() {
+            let Some(name) = part_name(number) else {
+                return Ok(true);
+            };
+            let file = part.file.to_vec(alloc)?;
+            self.loaded.push(load_bytes(alloc, name, file)?)?;
+        }
+        Ok(true)
+    }
+
     /// The files, in order.
     pub(crate) fn files(&self) -> &[Loaded<'a>] {
         &self.loaded
+    }
+
+    /// The bytes of the files, in order.
+    pub(crate) fn bytes(&self, alloc: Global) -> Result<Vec<&[u8]>, AllocError> {
+        let mut bytes = Vec::with_capacity(alloc, self.loaded.len())?;
+        for file in &self.loaded {
+            bytes.push(file.bytes.as_slice())?;
+        }
+        Ok(bytes)
     }
 
     /// The components of the files, in order.
@@ -173,29 +253,52 @@ impl<'a> LoadedFiles<'a> {
         Ok(components)
     }
 
-    /// The linked set of the components, which borrows them. They are checked in order, and then
-    /// linked; the fault is the first in the order of the files, of which `unread` is that of the
-    /// last, or else that of the links.
+    /// The components, checked in order. The fault is the first in the order of the files, of which
+    /// `unread` is that of the last.
+    pub(crate) fn check<'b>(
+        &'b self,
+        alloc: Global,
+        unread: Option<Fault<'a>>,
+    ) -> Result<Vec<Checked<'b>>, Fault<'a>> {
+        let mut components = Vec::with_capacity(alloc, self.loaded.len())?;
+        for file in &self.loaded {
+            components.push(file.check(alloc)?)?;
+        }
+        match unread {
+            Some(fault) => Err(fault),
+            None => Ok(components),
+        }
+    }
+
+    /// The linked set of the components, which borrows them: checked in order, and then linked.
     pub(crate) fn link<'b>(
         &'b self,
         alloc: Global,
         unread: Option<Fault<'a>>,
     ) -> Result<Linked<'b>, Fault<'a>> {
-        let mut components = Vec::with_capacity(alloc, self.loaded.len())?;
-        for file in &self.loaded {
-            components.push(file.check(alloc)?)?;
+        self.link_checked(alloc, self.check(alloc, unread)?)
+    }
+
+    /// The linked set of the components. A bundle has to be that of its files as they are linked.
+    pub(crate) fn link_checked<'b>(
+        &'b self,
+        alloc: Global,
+        components: Vec<Checked<'b>>,
+    ) -> Result<Linked<'b>, Fault<'a>> {
+        let linked = match link(alloc, components) {
+            Ok(linked) => linked,
+            Err(fault) => {
+                return Err(Fault::Tool(ToolFault::Link {
+                    fault,
+                    count: self.count,
+                    tail: kept(alloc, self.tail_of(alloc, fault)),
+                }));
+            }
+        };
+        if let Some((name, bytes)) = &self.bundle {
+            check_links(alloc, name, bytes, &linked)?;
         }
-        if let Some(fault) = unread {
-            return Err(fault);
-        }
-        match link(alloc, components) {
-            Ok(linked) => Ok(linked),
-            Err(fault) => Err(Fault::Tool(ToolFault::Link {
-                fault,
-                count: self.count,
-                tail: kept(alloc, self.tail_of(alloc, fault)),
-            })),
-        }
+        Ok(linked)
     }
 
     /// What the components have where they do not link, in words.

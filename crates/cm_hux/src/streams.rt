@@ -16,6 +16,9 @@ pub trait Streams {
 
     /// A file of this name, with nothing in it.
     fn create(&mut self, alloc: Global, name: &str) -> io::Result<Self::Writer>;
+
+    /// A folder of this name, if there is none.
+    fn create_folder(&mut self, name: &str) -> io::Result<()>;
 }
 
 /// A file of this name, with nothing in it.
@@ -28,6 +31,31 @@ pub(crate) fn create<'a, S: Streams>(
         Ok(writer) => Ok(writer),
         Err(_) => Err(Fault::Unwritten { name }),
     }
+}
+
+/// Writes a file of this name, with these bytes in it.
+pub(crate) fn write_file<'a, S: Streams>(
+    alloc: Global,
+    streams: &mut S,
+    name: &'a str,
+    bytes: &[u8],
+) -> Result<(), Fault<'a>> {
+    match write_whole(alloc, streams, name, bytes) {
+        Ok(()) => Ok(()),
+        Err(_) => Err(Fault::Unwritten { name }),
+    }
+}
+
+/// The same, with the error of what failed.
+pub(crate) fn write_whole<S: Streams>(
+    alloc: Global,
+    streams: &mut S,
+    name: &str,
+    bytes: &[u8],
+) -> io::Result<()> {
+    let mut out = streams.create(alloc, name)?;
+    out.write_all(bytes)?;
+    out.flush()
 }
 
 /// The standard input and the files of the machine that the program runs on.
@@ -53,5 +81,9 @@ impl<R: rt::Files + Input + AllocGlobal> Streams for DiskStreams<'_, R> {
 
     fn create(&mut self, alloc: Global, name: &str) -> io::Result<BufWriter<R::File>> {
         BufWriter::new(alloc, fs::create(self.rt, name)?)
+    }
+
+    fn create_folder(&mut self, name: &str) -> io::Result<()> {
+        fs::create_dir_all(self.rt, name)
     }
 }

@@ -3,13 +3,11 @@
 use crate::ending::Ending;
 use crate::fault::Fault;
 use crate::loading::load_files;
-use crate::streams::{Streams, create};
+use crate::streams::{Streams, write_file};
 use cm_binary::encode;
 use cm_stubs::{Component, StubFault, caller_for, provider_for};
 use cm_tool::Files;
 use std::alloc::Global;
-use std::io;
-use std::io::Write;
 
 /// Writes a component that exports what the first of these files imports, or one that imports what
 /// the last exports.
@@ -21,23 +19,15 @@ pub(crate) fn run_stub<'a, F: Files, S: Streams>(
     files: &mut F,
     streams: &mut S,
 ) -> Result<Ending, Fault<'a>> {
-    let (loaded, unread) = load_files(alloc, files, names)?;
+    let (loaded, unread) = load_files(alloc, files, names);
     if let Some(fault) = unread {
         return Err(fault);
     }
     let components = loaded.into_components(alloc)?;
     let stub = stub(alloc, &components, caller)?;
     let bytes = encode(alloc, &stub)?;
-    let mut out = create(alloc, streams, name)?;
-    match write_whole(&mut out, &bytes) {
-        Ok(()) => Ok(Ending::Done),
-        Err(_) => Err(Fault::Unwritten { name }),
-    }
-}
-
-fn write_whole<W: Write>(out: &mut W, bytes: &[u8]) -> io::Result<()> {
-    out.write_all(bytes)?;
-    out.flush()
+    write_file(alloc, streams, name, &bytes)?;
+    Ok(Ending::Done)
 }
 
 fn stub(

@@ -8,7 +8,8 @@ pub const VERSION: &str = "0.1.0";
 
 /// What the program's own help ends with.
 const ABOUT_ALL: &str = "A file named - is standard input. A file may have shims: nested components
-that rename what they are given, which tools write for each exported interface.
+that rename what they are given, which tools write for each exported interface. Where link, play,
+live and stub have one file alone, it may be a bundle: its files are the components then.
 
 Exit status: 0 done, 1 something was refused, 2 the words are no command, 3 a drive trapped,
 4 a file cannot be read or written, or standard output not be written.
@@ -64,10 +65,38 @@ prints
 
 const LINK: Said = Said {
     about: "Links components: each imports from those before it",
-    example: "Example:
-  hux link provider.wasm user.wasm
+    example: "With -o it writes them as one component that other runtimes read: a bundle. It has
+each file, byte for byte, and exports what the last one does, or the one that --export
+counts from 0.
+
+Example:
+  hux link provider.wasm user.wasm -o set.wasm
 prints
   1 inc <- 0 inc",
+};
+
+const UNBUNDLE: Said = Said {
+    about: "Writes the files of a bundle into a folder",
+    example: "They are named 0.wasm, 1.wasm and so on, in order. It prints which export each
+import is given.
+
+Example:
+  hux unbundle set.wasm -o parts
+prints
+  1 inc <- 0 inc",
+};
+
+const PLUG: Said = Said {
+    about: "Links providers into a component, by the imports that fit",
+    example: "It prints a line for each import that no component before exports, with which
+nothing is written; else what link prints.
+
+Example:
+  hux plug --plug provider.wasm user.wasm -o set.wasm
+prints
+  1 inc <- 0 inc
+or, where the provider does not export it,
+  1 inc is open",
 };
 
 const PLAY: Said = Said {
@@ -116,7 +145,9 @@ pub(crate) fn program<'a>(alloc: Global) -> Result<Command<'a>, AllocError> {
     let hux = add(hux, on_file(alloc, "show"), &SHOW)?;
     let hux = add(hux, on_file(alloc, "core"), &CORE)?;
     let hux = add(hux, conform(alloc), &CONFORM)?;
-    let hux = add(hux, on_files(alloc, "link"), &LINK)?;
+    let hux = add(hux, link(alloc), &LINK)?;
+    let hux = add(hux, unbundle(alloc), &UNBUNDLE)?;
+    let hux = add(hux, plug(alloc), &PLUG)?;
     let hux = add(hux, play(alloc), &PLAY)?;
     let hux = add(hux, live(alloc), &LIVE)?;
     add(hux, stub(alloc), &STUB)
@@ -156,6 +187,39 @@ fn conform<'a>(alloc: Global) -> Result<Command<'a>, AllocError> {
     let wit = option(alloc, "wit", "W").help("The file of the WIT text");
     let world = option(alloc, "world", "N").help("The full name of the world, as a:b/w@1.0.0");
     on_file(alloc, "conform")?.arg(wit)?.arg(world)
+}
+
+fn link<'a>(alloc: Global) -> Result<Command<'a>, AllocError> {
+    let export = choice(alloc, "export", "I")
+        .help("Exports what this component does, not the last")
+        .requires_arg("out")?;
+    on_files(alloc, "link")?.arg(bundle(alloc))?.arg(export)
+}
+
+fn unbundle<'a>(alloc: Global) -> Result<Command<'a>, AllocError> {
+    let out = option(alloc, "out", "DIR")
+        .short('o')
+        .help("The folder of the files");
+    on_file(alloc, "unbundle")?.arg(out)
+}
+
+fn plug<'a>(alloc: Global) -> Result<Command<'a>, AllocError> {
+    let plug = option(alloc, "plug", "PROVIDER")
+        .help("A component that exports; may be given again")
+        .action(ArgAction::Append);
+    let socket = Arg::new(alloc, "file")
+        .value_name("SOCKET")
+        .help("The component that imports")
+        .required(true);
+    let plug = Command::new(alloc, "plug").arg(plug)?;
+    plug.arg(socket)?.arg(bundle(alloc))
+}
+
+/// Where the set is written as one file.
+fn bundle<'a>(alloc: Global) -> Arg<'a> {
+    choice(alloc, "out", "OUT")
+        .short('o')
+        .help("Writes the components as one file")
 }
 
 fn play<'a>(alloc: Global) -> Result<Command<'a>, AllocError> {

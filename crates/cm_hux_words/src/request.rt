@@ -3,7 +3,7 @@
 use crate::commands::program;
 use clap::error::ErrorKind;
 use clap::{ArgMatches, Error};
-use std::alloc::{AllocError, Global};
+use std::alloc::{AllocError, AllocFailed, Global};
 
 /// A command, with the names of its files in order.
 #[derive(Drop)]
@@ -26,9 +26,21 @@ pub enum Request<'a> {
         world: &'a str,
         file: &'a str,
     },
-    /// `link FILE..`
+    /// `link FILE.. [-o OUT [--export I]]`
     Link {
         files: Vec<&'a str>,
+        bundle: BundleChoices<'a>,
+    },
+    /// `unbundle FILE -o DIR`
+    Unbundle {
+        file: &'a str,
+        folder: &'a str,
+    },
+    /// `plug --plug PROVIDER.. SOCKET [-o OUT]`: the providers in order, and behind them the
+    /// socket.
+    Plug {
+        files: Vec<&'a str>,
+        bundle: BundleChoices<'a>,
     },
     /// `play --script S FILE..`
     Play {
@@ -46,6 +58,14 @@ pub enum Request<'a> {
         caller: bool,
         out: &'a str,
     },
+}
+
+/// Where a set is written as one file, if it is, and which component's exports that has: the words
+/// behind the options.
+#[derive(Clone, Copy, Drop)]
+pub struct BundleChoices<'a> {
+    pub out: Option<&'a str>,
+    pub export: Option<&'a str>,
 }
 
 /// What may be said of `live`: the words behind its options.
@@ -80,6 +100,12 @@ impl From<AllocError> for WordsFault {
     }
 }
 
+impl<T: Drop> From<AllocFailed<T>> for WordsFault {
+    fn from(_error: AllocFailed<T>) -> WordsFault {
+        WordsFault::Memory
+    }
+}
+
 impl<'a> Answer<'a> {
     /// What the words ask for. The program's own name is not among them.
     ///
@@ -109,7 +135,7 @@ fn text_of<'a>(alloc: Global, error: &Error) -> Result<Answer<'a>, WordsFault> {
 fn request_of<'a>(alloc: Global, matches: &ArgMatches<'a>) -> Result<Request<'a>, WordsFault> {
     match matches.subcommand() {
         Some(("check", found)) => {
-            let files = files_of(alloc, found)?;
+            let files = files_of(alloc, found, "files")?;
             Ok(Request::Check { files })
         }
         Some(("show", found)) => {
@@ -122,9 +148,16 @@ fn request_of<'a>(alloc: Global, matches: &ArgMatches<'a>) -> Result<Request<'a>
         }
         Some(("conform", found)) => conform_of(alloc, found),
         Some(("link", found)) => {
-            let files = files_of(alloc, found)?;
-            Ok(Request::Link { files })
+            let files = files_of(alloc, found, "files")?;
+            let bundle = bundle_of(found);
+            Ok(Request::Link { files, bundle })
         }
+        Some(("unbundle", found)) => {
+            let file = value_of(alloc, found, "file")?;
+            let folder = value_of(alloc, found, "out")?;
+            Ok(Request::Unbundle { file, folder })
+        }
+        Some(("plug", found)) => plug_of(alloc, found),
         Some(("play", found)) => play_of(alloc, found),
         Some(("live", found)) => live_of(alloc, found),
         Some(("stub", found)) => stub_of(alloc, found),
@@ -139,14 +172,28 @@ fn conform_of<'a>(alloc: Global, found: &ArgMatches<'a>) -> Result<Request<'a>, 
     Ok(Request::Conform { wit, world, file })
 }
 
+fn plug_of<'a>(alloc: Global, found: &ArgMatches<'a>) -> Result<Request<'a>, WordsFault> {
+    let mut files = files_of(alloc, found, "plug")?;
+    files.push(value_of(alloc, found, "file")?)?;
+    let bundle = bundle_of(found);
+    Ok(Request::Plug { files, bundle })
+}
+
+fn bundle_of<'a>(found: &ArgMatches<'a>) -> BundleChoices<'a> {
+    BundleChoices {
+        out: found.get_str("out"),
+        export: found.get_str("export"),
+    }
+}
+
 fn play_of<'a>(alloc: Global, found: &ArgMatches<'a>) -> Result<Request<'a>, WordsFault> {
     let script = value_of(alloc, found, "script")?;
-    let files = files_of(alloc, found)?;
+    let files = files_of(alloc, found, "files")?;
     Ok(Request::Play { script, files })
 }
 
 fn live_of<'a>(alloc: Global, found: &ArgMatches<'a>) -> Result<Request<'a>, WordsFault> {
-    let files = files_of(alloc, found)?;
+    let files = files_of(alloc, found, "files")?;
     let choices = LiveChoices {
         record: found.get_str("record"),
         limit: found.get_str("limit"),
@@ -157,7 +204,7 @@ fn live_of<'a>(alloc: Global, found: &ArgMatches<'a>) -> Result<Request<'a>, Wor
 
 fn stub_of<'a>(alloc: Global, found: &ArgMatches<'a>) -> Result<Request<'a>, WordsFault> {
     let out = value_of(alloc, found, "out")?;
-    let files = files_of(alloc, found)?;
+    let files = files_of(alloc, found, "files")?;
     Ok(Request::Stub {
         files,
         caller: found.get_flag("caller"),
@@ -176,8 +223,12 @@ fn value_of<'a>(alloc: Global, found: &ArgMatches<'a>, id: &str) -> Result<&'a s
     }
 }
 
-fn files_of<'a>(alloc: Global, found: &ArgMatches<'a>) -> Result<Vec<&'a str>, WordsFault> {
-    match found.get_strs("files") {
+fn files_of<'a>(
+    alloc: Global,
+    found: &ArgMatches<'a>,
+    id: &str,
+) -> Result<Vec<&'a str>, WordsFault> {
+    match found.get_strs(id) {
         Some(names) => Ok(names.to_vec(alloc)?),
         None => Err(no_command(alloc)),
     }

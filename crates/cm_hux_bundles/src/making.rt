@@ -1,0 +1,44 @@
+//! Bundles that are made, and what stands in one.
+
+use crate::trouble::Trouble;
+use cm_bundle::{Bundle, BundlingFault, Part, bundle};
+use cm_match::Linked;
+use cm_tool_text::Escaped;
+use std::alloc::Global;
+use std::io;
+use std::io::Write;
+
+/// The bundle of a linked set, of whose components these are the files, with the exports of one.
+pub fn made(
+    alloc: Global,
+    linked: &Linked<'_>,
+    files: &[&[u8]],
+    exporter: usize,
+) -> Result<Vec<u8>, Trouble<'static>> {
+    match bundle(alloc, linked, files, exporter) {
+        Ok(bytes) => Ok(bytes),
+        Err(BundlingFault::Memory) => Err(Trouble::Memory),
+        Err(fault) => Err(Trouble::NotMade(fault)),
+    }
+}
+
+/// Writes what the imports of the parts are given, a line for each, as the lines of a plan.
+pub fn write_arguments<O: Write>(out: &mut O, bundle: &Bundle<'_>) -> io::Result<()> {
+    for (number, part) in bundle.parts.iter().enumerate() {
+        write_part(out, number, part)?;
+    }
+    out.flush()
+}
+
+fn write_part<O: Write>(out: &mut O, number: usize, part: &Part<'_>) -> io::Result<()> {
+    for argument in &part.arguments {
+        let import = Escaped(argument.name);
+        let export = Escaped(argument.export.name);
+        writeln!(
+            out,
+            "{number} {import} <- {} {export}",
+            argument.export.part
+        )?;
+    }
+    Ok(())
+}

@@ -1,0 +1,45 @@
+//! Why a bundle is not made or taken.
+
+use cm_bundle::{BundleFault, BundlingFault};
+use cm_tool_text::Escaped;
+use std::alloc::{AllocError, AllocFailed};
+use std::fmt;
+
+/// Why a bundle is not made or taken. A name is the word of the command line.
+#[derive(Clone, Copy, Drop)]
+pub enum Trouble<'a> {
+    /// The components are not written as one file; not for want of memory.
+    NotMade(BundlingFault),
+    /// The file is no bundle; not for want of memory.
+    NoBundle { name: &'a str, fault: BundleFault },
+    /// The file is a bundle, but not the one that is made of its files.
+    OtherLinks { name: &'a str },
+    /// There was no memory.
+    Memory,
+}
+
+impl From<AllocError> for Trouble<'_> {
+    fn from(_error: AllocError) -> Self {
+        Trouble::Memory
+    }
+}
+
+impl<T: Drop> From<AllocFailed<T>> for Trouble<'_> {
+    fn from(_error: AllocFailed<T>) -> Self {
+        Trouble::Memory
+    }
+}
+
+impl fmt::Display for Trouble<'_> {
+    fn fmt<W: fmt::Write>(&self, f: &mut fmt::Formatter<W>) -> fmt::Result {
+        match self {
+            Trouble::NotMade(fault) => write!(f, "the bundle: {fault}"),
+            Trouble::NoBundle { name, fault } => write!(f, "{}: {fault}", Escaped(name)),
+            Trouble::OtherLinks { name } => {
+                let name = Escaped(name);
+                write!(f, "{name}: OtherLinks: it is not the bundle of its files")
+            }
+            Trouble::Memory => f.write_str("no memory"),
+        }
+    }
+}
