@@ -79,7 +79,7 @@ class Block:
 def name_of(row):
     """The name that a row gives to what it spells."""
     words = row.split(" ")
-    if words[0] == "file":
+    if words[0] in ("file", "component"):
         return words[1]
     return words[2] if len(words) > 2 and words[1] == "name" else None
 

@@ -65,6 +65,10 @@ pub mod live {
     pub use cm_live::{Answer, LiveFault, Record, Served, Session, Written, serve, write_answer};
 }
 
+pub mod values {
+    pub use cm_values::{PrintFault, ValueFault, ValueReason, parse, print};
+}
+
 pub mod hux {
     pub use cm_hux::{CoreRow, Ending, core_row, core_text, run_hux, show_world};
 }
