@@ -28,6 +28,7 @@ ghost use Rattle.cm_machine_set.specs.Running.{GoesOnFrom, IsNew, begun, is_owne
 use crate::advance::advance;
 use arrayvec::ArrayVec;
 use cm_abi_model::HandleLeaf;
+use cm_handles::Table;
 use cm_machine_links::{Links, links_of};
 use cm_machine_model::state::{Frame, Lend, Place, Purpose, Work};
 use cm_machine_model::{Event, Flat, MAX_INSTANCES, Misuse, Move};
@@ -276,6 +277,21 @@ impl Set {
         ensures { option_copied result ≡ slice_get self.now.state.memories instance }
     {
         self.state.memories.get(instance as usize)
+    }
+
+    /// The handles of an instance, or `None` where there is no such instance.
+    pub fn table(&self, instance: u32) -> Option<&Table>
+        ensures { option_map (λ t. t.now.handles) result
+            ≡ slice_get self.now.state.tables instance }
+    {
+        self.state.tables.get(instance as usize)
+    }
+
+    /// What each core function of each instance stands for.
+    pub fn links(&self) -> &Links
+        ensures { result.now ≡ self.now.links }
+    {
+        &self.links
     }
 
     /// Whether a trap has closed an instance, or `None` where there is no such instance.

@@ -6,6 +6,7 @@ mod disk;
 mod playing;
 mod words;
 
+pub use cm_machine::{Event, Misuse, Move, Set};
 pub use cm_tool_commands::{
     Asked, BadFile, Checked, Fault, FileFault, FileReason, Files, LinkFault, Linked, LoadedFiles,
     MAX_COMPONENTS, Outcome, ScriptFault, Unfit, UnfitReason, Usage, ValidFault, checked_of,
