@@ -1,6 +1,7 @@
 //! Bundles that are made, and what stands in one.
 
 use crate::trouble::Trouble;
+use crate::type_imports::imports_type;
 use cm_bundle::{Bundle, BundlingFault, Part, bundle};
 use cm_match::Linked;
 use cm_tool_text::Escaped;
@@ -9,17 +10,30 @@ use std::io;
 use std::io::Write;
 
 /// The bundle of a linked set, of whose components these are the files, with the exports of one.
+///
+/// `ImportsType` comes where a file imports a type: other runtimes want an argument for it, and the
+/// set has none.
 pub fn made(
     alloc: Global,
     linked: &Linked<'_>,
     files: &[&[u8]],
     exporter: usize,
 ) -> Result<Vec<u8>, Trouble<'static>> {
+    refuse_type_imports(alloc, files)?;
     match bundle(alloc, linked, files, exporter) {
         Ok(bytes) => Ok(bytes),
         Err(BundlingFault::Memory) => Err(Trouble::Memory),
         Err(fault) => Err(Trouble::NotMade(fault)),
     }
+}
+
+fn refuse_type_imports(alloc: Global, files: &[&[u8]]) -> Result<(), Trouble<'static>> {
+    for (component, file) in files.iter().enumerate() {
+        if imports_type(alloc, file)? {
+            return Err(Trouble::ImportsType { component });
+        }
+    }
+    Ok(())
 }
 
 /// Writes what the imports of the parts are given, a line for each, as the lines of a plan.

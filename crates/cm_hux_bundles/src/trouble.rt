@@ -10,6 +10,9 @@ use std::fmt;
 pub enum Trouble<'a> {
     /// The components are not written as one file; not for want of memory.
     NotMade(BundlingFault),
+    /// The file of a component, by its number from 0, imports a type, which nothing in a bundle
+    /// serves.
+    ImportsType { component: usize },
     /// The file is no bundle; not for want of memory.
     NoBundle { name: &'a str, fault: BundleFault },
     /// The file is a bundle, but not the one that is made of its files.
@@ -34,6 +37,10 @@ impl fmt::Display for Trouble<'_> {
     fn fmt<W: fmt::Write>(&self, f: &mut fmt::Formatter<W>) -> fmt::Result {
         match self {
             Trouble::NotMade(fault) => write!(f, "the bundle: {fault}"),
+            Trouble::ImportsType { component } => write!(
+                f,
+                "the bundle: ImportsType in component {component}: nothing serves a type"
+            ),
             Trouble::NoBundle { name, fault } => write!(f, "{}: {fault}", Escaped(name)),
             Trouble::OtherLinks { name } => {
                 let name = Escaped(name);
