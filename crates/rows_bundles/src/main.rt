@@ -10,7 +10,7 @@ use std::io;
 use std::process::ExitCode;
 
 /// The families of rows, a file each.
-const FAMILIES: [&str; 1] = ["bundles"];
+const FAMILIES: [&str; 2] = ["bundles", "changed"];
 
 /// The state between rows: files by their names.
 #[derive(Drop)]

@@ -1,0 +1,173 @@
+#!/usr/bin/env python3
+"""bench/changed_bundles.py: writes crates/rows_bundles/data/changed.rows.
+
+Each byte of two bundles is changed in three ways, and of each the answer is worked out by a second
+reader of the grammar of crates/cm_bundle_form/README.md, which is written here from that page and
+from Binary.md: what the bytes spell, or the first fault and its place.
+"""
+
+from pathlib import Path
+
+TOP = Path(__file__).resolve().parent.parent
+ROWS = TOP / "crates" / "rows_bundles" / "data" / "changed.rows"
+PREAMBLE = bytes.fromhex("0061736d0d000100")
+BUNDLES = {
+    "one": "0061736d0d000100 0401aa 060100 050401000000 060100 0b0100",
+    "two": "0061736d0d000100 0401aa 060100 050401000000 0402bbbb 060b 02 0100000166 050000016a"
+           " 050c 01 0001 02 0166 01 00 0169 05 01 0606 01 0100020178 0b07 01 000179 01 01 00",
+}
+FLIPS = (0x01, 0x02, 0x80)
+
+
+class Fault(Exception):
+    pass
+
+
+class Reader:
+    """Reads one thing after another; a fault has its reason and its place."""
+
+    def __init__(self, data):
+        self.data, self.at = data, 0
+
+    def byte(self):
+        if self.at == len(self.data):
+            raise Fault(f"Truncated at {self.at}")
+        self.at += 1
+        return self.data[self.at - 1]
+
+    def fixed(self, wanted, reason="UnknownCode"):
+        for byte in wanted:
+            if self.byte() != byte:
+                raise Fault(f"{reason} at {self.at - 1}")
+
+    def number(self):
+        """An unsigned LEB128 number of at most 32 bits, in its shortest spelling."""
+        start, value = self.at, 0
+        for place in range(5):
+            byte = self.byte()
+            if place == 4 and byte > 0x0F:
+                raise Fault(f"BadNumber at {start}")
+            value |= (byte & 0x7F) << (7 * place)
+            if byte < 0x80:
+                if place and byte == 0:
+                    raise Fault(f"BadNumber at {start}")
+                return value
+        raise AssertionError
+
+    def this(self, wanted):
+        start = self.at
+        if self.number() != wanted:
+            raise Fault(f"OtherNumber at {start}")
+
+    def raw(self):
+        size = self.number()
+        if self.at + size > len(self.data):
+            raise Fault(f"Truncated at {len(self.data)}")
+        self.at += size
+        return self.data[self.at - size : self.at]
+
+    def text(self):
+        data = self.raw()
+        try:
+            return data.decode("utf-8")
+        except UnicodeDecodeError:
+            raise Fault(f"BadUtf8 at {self.at - len(data)}") from None
+
+    def sized(self, read):
+        size, start = self.number(), self.at
+        thing = read()
+        if self.at - start != size:
+            raise Fault(f"SizeMismatch at {start}")
+        return thing
+
+
+class Bundle(Reader):
+    """A bundle: the instances of its parts, and how many functions and instances there are."""
+
+    def __init__(self, data):
+        super().__init__(data)
+        self.parts, self.counts = [], {"func": 0, "instance": 0}
+
+    def alias(self):
+        sorts = {0x01: "func", 0x05: "instance"}
+        sort = self.byte()
+        if sort not in sorts:
+            raise Fault(f"UnknownCode at {self.at - 1}")
+        self.fixed([0x00])
+        start = self.at
+        index = self.number()
+        if index not in self.parts:
+            raise Fault(f"NoSuchPart at {start}")
+        return sorts[sort], self.parts.index(index), self.text()
+
+    def aliases(self):
+        return self.sized(lambda: [self.alias() for _ in range(self.number())])
+
+    def supplies(self, aliases, lead, tail):
+        self.this(len(aliases))
+        said = []
+        for sort, part, name in aliases:
+            self.fixed(lead)
+            given = self.text()
+            self.fixed([{"func": 0x01, "instance": 0x05}[sort]])
+            self.this(self.counts[sort])
+            self.fixed(tail)
+            self.counts[sort] += 1
+            said.append(f"{given}={sort}:{part}:{name}")
+        return said
+
+    def part(self):
+        file = self.raw()
+        self.fixed([0x06])
+        aliases = self.aliases()
+        self.fixed([0x05])
+        given = self.sized(lambda: self.instance(aliases))
+        self.parts.append(self.counts["instance"])
+        self.counts["instance"] += 1
+        return " ".join(["part", file.hex() or "-", *given])
+
+    def instance(self, aliases):
+        self.fixed([0x01, 0x00])
+        self.this(len(self.parts))
+        return self.supplies(aliases, [], [])
+
+    def exports(self):
+        aliases = self.aliases()
+        self.fixed([0x0B])
+        return self.sized(lambda: self.supplies(aliases, [0x00], [0x00]))
+
+    def read(self):
+        self.fixed(PREAMBLE, "BadPreamble")
+        said = []
+        while (section := self.byte()) == 0x04:
+            said.append(self.part())
+        if section != 0x06:
+            raise Fault(f"UnknownCode at {self.at - 1}")
+        said.append(" ".join(["exports", *self.exports()]))
+        if self.at < len(self.data):
+            raise Fault(f"Surplus at {self.at}")
+        return " | ".join(said)
+
+
+def answer(data):
+    try:
+        return Bundle(data).read()
+    except Fault as fault:
+        return f"fault {fault}"
+
+
+def rows():
+    yield "# Each byte of two bundles is another, in three ways: written by bench/changed_bundles.py, which reads"
+    yield "# the grammar a second time."
+    for name, text in BUNDLES.items():
+        data = bytes.fromhex(text.replace(" ", ""))
+        yield f"bundles name {name} {data.hex()} => {len(data)} bytes"
+        yield f"bundles read @{name} => {answer(data)}"
+        for at, byte in enumerate(data):
+            for flip in FLIPS:
+                changed = bytes([*data[:at], byte ^ flip, *data[at + 1 :]])
+                yield f"bundles changed @{name} {at} {byte ^ flip:02x} => {answer(changed)}"
+
+
+if __name__ == "__main__":
+    ROWS.write_text("".join(f"{row}\n" for row in rows()), encoding="utf-8")
