@@ -3,8 +3,9 @@
 Each folder of examples/ with a script has a README.md whose first command plays it, `output`, which
 is what is printed then, and, where something is said on standard error, `errors`. The README says
 the exit status. `crates/rows_tool/data/examples.rows` plays the same files, in memory. The page of
-examples/live has a command for each NAME.script, which is to print NAME.events;
-`crates/rows_hux/data/programs.rows` plays those. What the page shows is what was recorded.
+examples/live has a command for each NAME.script, which is to print NAME.events, and on standard
+error NAME.errors, where that is there; `crates/rows_hux/data/programs.rows` plays those. What the page shows is what was recorded. The
+values and the picture that end a page are what `crates/rows_hux/data/plays.rows` wants of `hux`.
 """
 
 import re
@@ -61,7 +62,8 @@ def live_rows():
         known.update(new)
         events = (LIVE / words[2]).with_suffix(".events").read_text(encoding="utf-8")
         status = STATUS[events.splitlines()[-1].split()[0]]
-        rows.append(f"hux run {' '.join(words)} => status {status}, out {spelled(events)}, err -")
+        err = printed(LIVE, Path(words[2]).with_suffix(".errors").name)
+        rows.append(f"hux run {' '.join(words)} => status {status}, out {spelled(events)}, err {err}")
     return rows
 
 
@@ -74,6 +76,30 @@ def unrecorded():
         mark, _, said = re.split(" {2,}", line.strip())[0].partition(" ")
         if mark in known and said not in known[mark] and not said.startswith("mem "):
             yield line
+
+
+def shown_on(page, before, behind):
+    """The lines of a page between two, those that go on with eight blanks joined, as rows spell
+    them: a byte that is no ASCII is `?`."""
+    text = page.partition(before)[2].partition(behind)[0].replace("\n" + 12 * " ", " ")
+    text = re.sub(r"^    (?! )", "", text, flags=re.M) if before.endswith(":\n\n") else text
+    return spelled(text.encode().decode("ascii", "replace").replace("\ufffd", "?"))
+
+
+def unshown(folders):
+    """The folders whose page does not end with the values and the picture that the rows want."""
+    rows = (TOP / "crates" / "rows_hux" / "data" / "plays.rows").read_text(encoding="utf-8")
+    for folder in folders:
+        page = (folder / "README.md").read_text(encoding="utf-8")
+        for option, before, behind in (
+            ("values", "say to one another:\n\n", "\nand with"),
+            ("mermaid", "```mermaid\n", "```"),
+        ):
+            words = f"hux run play --{option} --script {folder.name}/script "
+            wanted = [it.split(", out ", 1)[1] for it in rows.splitlines() if it.startswith(words)]
+            said = shown_on(page, before, behind) + ", err "
+            if not wanted or not wanted[0].startswith(said):
+                yield f"{folder.name}/README.md: not what hux play --{option} has"
 
 
 def hold(file, title, rows, writes):
@@ -98,6 +124,9 @@ def main():
     for line in unrecorded():
         held.append(False)
         print(f"examples/live/README.md: not as recorded: {line.strip()}")
+    for line in unshown(folders):
+        held.append(False)
+        print(f"examples/{line}")
     return 0 if all(held) else 1
 
 

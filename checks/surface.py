@@ -72,6 +72,8 @@ PARTS = re.compile(
 )
 SIGNATURE = re.compile(r"[^{;]*?(?=\b(?:requires|ensures|where)\b|[{;])")
 TYPE = re.compile(r"\b(struct|enum)\s+(\w+)[^{;(]*([{(])")
+# a variant of an enum, and the number that it is given, if it is
+VARIANT = re.compile(r"^\s*([A-Z]\w*)\s*(?:\([^)]*\)|\{[^}]*\})?\s*(?:=\s*(\d+))?\s*,", re.M)
 
 
 def read(path):
@@ -96,6 +98,21 @@ def closing(text, at):
         if depth == 0:
             return at + found.end()
     return len(text)
+
+
+def enums():
+    """The variants of each enum of the libraries, with their numbers from 1 on, or those given."""
+    found = {}
+    for file in CRATES.glob("*/src/**/*.rt"):
+        text = blanked(read(file))
+        for head in re.finditer(r"\bpub enum (\w+)(?:<[^>]*>)?\s*\{", text):
+            body = re.sub(r"#\[[^\]]*\]", "", text[head.end() : closing(text, head.end() - 1) - 1])
+            variants, number = [], 0
+            for name, given in VARIANT.findall(body.rstrip() + ","):
+                number = int(given) if given else number + 1
+                variants.append((str(number), name))
+            found.setdefault(head[1], []).append(variants)
+    return found
 
 
 def words_of(text):

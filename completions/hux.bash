@@ -2,24 +2,28 @@
 _hux() {
     local word=${COMP_WORDS[COMP_CWORD]} words=""
     if [ "$COMP_CWORD" -eq 1 ]; then
-        mapfile -t COMPREPLY < <(compgen -W "check show core conform link unbundle plug play live stub help --help --version" -- "$word")
+        mapfile -t COMPREPLY < <(compgen -W "check show core conform link unbundle plug play call live stub explain diff help --json --quiet --help --version" -- "$word")
         return
     fi
     case "${COMP_WORDS[1]}" in
-        check) words="--help" ;;
-        show) words="--help" ;;
-        core) words="--help" ;;
-        conform) words="--wit --world --help" ;;
-        link) words="--out --export --help" ;;
-        unbundle) words="--out --help" ;;
-        plug) words="--plug --out --help" ;;
-        play) words="--script --help" ;;
-        live) words="--record --limit --pages --help" ;;
-        stub) words="--out --caller --help" ;;
-        help) words="check show core conform link unbundle plug play live stub" ;;
+        check) words="--json --quiet --help" ;;
+        show) words="--json --quiet --help" ;;
+        core) words="--json --quiet --help" ;;
+        conform) words="--wit --world --json --quiet --help" ;;
+        link) words="--out --export --mermaid --json --quiet --help" ;;
+        unbundle) words="--out --json --quiet --help" ;;
+        plug) words="--plug --out --json --quiet --help" ;;
+        play) words="--script --values --mermaid --messages --json --quiet --help" ;;
+        call) words="--script --json --quiet --help" ;;
+        live) words="--record --limit --pages --values --json --quiet --help" ;;
+        stub) words="--out --caller --json --quiet --help" ;;
+        explain) words="--json --quiet --help" ;;
+        diff) words="--world --json --quiet --help" ;;
+        help) words="check show core conform link unbundle plug play call live stub explain diff" ;;
     esac
     case "${COMP_WORDS[1]} $word" in
         help* | *" -"*) mapfile -t COMPREPLY < <(compgen -W "$words" -- "$word") ;;
+        "explain "*) mapfile -t COMPREPLY < <(compgen -W "trap misuse decode file text-file limit write leb signed name type handle text show shim fit valid link bundle bundling stub wit world conform script line print value seat values call Arguments BadAnnotatedName BadAnnotation BadCase BadChar BadEscape BadFragment BadHex BadLastBits BadName BadNumber BadPages BadPreamble BadText BadToken BadUtf8 BadVersion BorrowInResult BorrowsLeft Busy CalleeClosed Closed Component CoreShape Cycle DifferentResource DifferentType Duplicate DuplicateName Empty EmptyType EngineMemory Full GuestBounds Idle IllFormed Limit MayNotLeave Misaligned Missing MissingArgument MissingExport Misuse NameTwice NeedsMemory NeedsRealloc NoComponent NoFunction NoGuest NoHandle NoInstance NoProvider NoResource NoRoom NoSuchComponent NoSuchFunc NoSuchIndex NoSuchInterface NoSuchPart NoSuchShim NoSuchType NoSuchWorld NotAModule NotAStatement NotExact NotGuestFunction NotImported NotInWorld NotLinked NotOneChar NotOwnResource NotOwned NotSpellable NotUtf8 NotValid OptionNotAllowed OptionTwice OtherFiles OtherFunc OtherNumber OtherType OutOfRange Overlap PagesFirst PagesTwice PointerBounds Read Results SecondMemory SizeMismatch StackFull StillLent StoresLatin1 Surplus TableFull TooDeep TooLarge TooLong TooMany TooManyFlags TooManyParts Trapped Truncated TwoProviders Unexpected UnknownCode UnknownFunction UnknownName Unreachable Unsupported Write WrongLength WrongResource WrongSort WrongType WrongTypes" -- "$word") ;;
         *) mapfile -t COMPREPLY < <(compgen -f -- "$word") ;;
     esac
 }

@@ -1,13 +1,9 @@
 //! Whether the component of a file fits a world of the text of another.
 
-use crate::fault::Fault;
-use crate::loading::{Loaded, kept, load_file, of_file};
-use cm_tool::{
-    Asked, Fault as ToolFault, Files, Unfit, UnfitReason, conform_component, read_file, signature,
-    text_of, world_of,
+use cm_hux_play::files::{
+    Asked, Fault, Files, Loaded, ToolFault, Unfit, UnfitReason, conform_component, conform_help,
+    kept, load_file, of_file, read_file, signature, text_of, wit_help, world_help, world_of,
 };
-use cm_tool_help_texts::{wit_help, world_help};
-use cm_tool_help_types::conform_help;
 use cm_wit_conforms::ConformFault;
 use std::alloc::Global;
 

@@ -6,22 +6,15 @@
 mod bundling;
 mod commands;
 mod conforming;
-mod core_lines;
-mod core_rows;
-mod ending;
-mod fault;
-mod living;
-mod loading;
-mod playing;
-mod streams;
+mod differing;
+mod explaining;
+mod objects;
 mod stubbing;
 
+pub use cm_hux_core::{CoreRow, core_row, core_text};
+pub use cm_hux_play::files::{
+    Disk, DiskStreams, Ending, Fault, FileFault, Files, Loaded, Streams, ToolFault, Usage,
+    load_file, report, words_of,
+};
 pub use cm_hux_show::show_world;
-pub use cm_tool::{Disk, Fault as ToolFault, FileFault, Files, Usage, words_of};
 pub use commands::run_hux;
-pub use core_lines::core_text;
-pub use core_rows::{CoreRow, core_row};
-pub use ending::Ending;
-pub use fault::{Fault, report};
-pub use loading::{Loaded, load_file};
-pub use streams::{DiskStreams, Streams};

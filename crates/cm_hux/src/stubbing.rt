@@ -1,23 +1,26 @@
 //! Writing components that stand in for a host.
 
-use crate::ending::Ending;
-use crate::fault::Fault;
-use crate::loading::load_files;
-use crate::streams::{Streams, write_file};
+use crate::objects::tell_written;
 use cm_binary::encode;
-use cm_stubs::{Component, StubFault, caller_for, provider_for};
-use cm_tool::Files;
+use cm_binary_model::Component;
+use cm_hux_play::files::{
+    Ending, Fault, Files, Streams, StubFault, caller_for, load_files, provider_for, write_file,
+};
+use cm_hux_words::Habits;
 use std::alloc::Global;
+use std::io::Write;
 
 /// Writes a component that exports what the first of these files imports, or one that imports what
 /// the last exports.
-pub(crate) fn run_stub<'a, F: Files, S: Streams>(
+pub(crate) fn run_stub<'a, F: Files, S: Streams, O: Write>(
     alloc: Global,
     names: &[&'a str],
     caller: bool,
     name: &'a str,
+    habits: Habits,
     files: &mut F,
     streams: &mut S,
+    out: &mut O,
 ) -> Result<Ending, Fault<'a>> {
     let (loaded, unread) = load_files(alloc, files, names);
     if let Some(fault) = unread {
@@ -27,6 +30,9 @@ pub(crate) fn run_stub<'a, F: Files, S: Streams>(
     let stub = stub(alloc, &components, caller)?;
     let bytes = encode(alloc, &stub)?;
     write_file(alloc, streams, name, &bytes)?;
+    if habits.json {
+        tell_written(alloc, name, bytes.len(), out)?;
+    }
     Ok(Ending::Done)
 }
 

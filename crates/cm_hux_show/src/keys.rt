@@ -13,7 +13,7 @@ use std::alloc::{AllocError, Global};
 /// An import counts all resources alike that it brings, and no other has a greater number in a type
 /// that it brings: so at one place the greatest number tells which resources a type has.
 #[derive(Clone, Copy, PartialEq, Eq, PartialOrd, Ord)]
-pub(crate) enum Key {
+pub enum Key {
     Resource(u64),
     Type { place: usize, last: Option<u64> },
     /// All types that are equal, by their number.
@@ -30,26 +30,26 @@ pub(crate) struct TypeKeys {
 
 /// A type where it is used: its place in the arena, and how its resources are counted.
 #[derive(Clone, Copy)]
-pub(crate) struct Used {
+pub struct Used {
     pub place: usize,
     pub by: Counting,
 }
 
 impl Used {
     /// A part of the type, by its place.
-    pub(crate) fn at(self, place: usize) -> Used
+    pub fn at(self, place: usize) -> Used
         ensures { result.place ≡ place }
     {
         Used { place, by: self.by }
     }
 
     /// The number of a resource of the type, as it is counted.
-    pub(crate) fn resource(self, id: ResourceId) -> u64 {
+    pub fn resource(self, id: ResourceId) -> u64 {
         self.by.resource(id).number
     }
 
     /// What has its name, where these are the greatest numbers of resources in types.
-    pub(crate) fn key(self, lasts: &[Option<u64>]) -> Key {
+    pub fn key(self, lasts: &[Option<u64>]) -> Key {
         let last = match lasts.get(self.place) {
             Some(Some(number)) => {
                 let number = *number;
@@ -68,7 +68,7 @@ impl Used {
 }
 
 /// Of each type of an arena the greatest number of a resource in it, if it has handles.
-pub(crate) fn last_resources(alloc: Global, types: &Types) -> Result<Vec<Option<u64>>, AllocError> {
+pub fn last_resources(alloc: Global, types: &Types) -> Result<Vec<Option<u64>>, AllocError> {
     let mut lasts = Vec::with_capacity(alloc, types.len())?;
     for place in 0..types.len() {
         let last = match types.node(place) {

@@ -13,4 +13,6 @@ mod world;
 mod writer;
 
 pub use cm_tool_show::{MAX_SHOWN, ShowFault};
+pub use keys::{Key, Used, last_resources};
+pub use types::primitive_word;
 pub use world::show_world;

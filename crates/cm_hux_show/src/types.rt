@@ -11,7 +11,7 @@ use cm_types::{Case, Field, Label, TypeNode};
 pub(crate) const MAX_SPELLED: usize = 16;
 
 /// The word of a type that is no other type's: of a number, a text and the like.
-pub(crate) fn primitive_word(node: &TypeNode) -> Option<&'static str> {
+pub fn primitive_word(node: &TypeNode) -> Option<&'static str> {
     match node {
         TypeNode::Bool => Some("bool"),
         TypeNode::S8 => Some("s8"),

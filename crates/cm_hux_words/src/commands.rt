@@ -107,7 +107,46 @@ prints
   resume 1
   enter 0 0 i32:41
   resume 1 i32:42
-  ended",
+  ended
+and with --values
+  1 user -> 0 provider  inc(41)
+  <- 42",
+};
+
+const CALL: Said = Said {
+    about: "Links components, calls what one exports, and prints the result",
+    example: "The values are written as WIT's tools write them. A caller that imports the function
+is made and linked behind the files; the script has the moves of the others.
+
+Example:
+  hux call --script script provider.wasm 'inc(41)'
+prints
+  42",
+};
+
+const EXPLAIN: Said = Said {
+    about: "Says what a trap, a misuse or a reason means, its usual cause, and what to do",
+    example: "It is named by its name, or by its kind and number: trap, misuse, decode, valid, link,
+wit and so on. A name of several kinds is told of each; a kind alone lists what it has.
+
+Example:
+  hux explain trap 15
+prints
+  trap 15, BorrowsLeft: a call returned before it dropped the handles that it had borrowed
+and its usual cause, what to do, and the section of the standard.",
+};
+
+const DIFF: Said = Said {
+    about: "Says what a component or world lacks or has changed for one that uses another",
+    example: "Each of the two is a component file, or a WIT text with a world in it. Status 1 where
+what one uses is gone or changed, or where more is imported; what is marked harmless breaks
+nothing.
+
+Example:
+  hux diff old.wasm new.wasm
+prints
+  export greet is gone
+  export welcome is new (harmless)",
 };
 
 const LIVE: Said = Said {
@@ -134,13 +173,24 @@ Example:
 
 /// The program with all its commands.
 pub(crate) fn program<'a>(alloc: Global) -> Result<Command<'a>, AllocError> {
+    let json = flag(alloc, "json")
+        .help("Prints a JSON object a line")
+        .display_order(900)
+        .global(true);
+    let quiet = flag(alloc, "quiet")
+        .short('q')
+        .help("Prints nothing but what is wrong")
+        .display_order(901)
+        .global(true);
     let hux = Command::new(alloc, "hux")
         .about("Checks, shows, links and plays WebAssembly components")
         .version(VERSION)
         .after_help(ABOUT_ALL)
         .no_binary_name(true)
         .subcommand_required(true)
-        .bin_name("hux")?;
+        .bin_name("hux")?
+        .arg(json)?
+        .arg(quiet)?;
     let hux = add(hux, on_files(alloc, "check"), &CHECK)?;
     let hux = add(hux, on_file(alloc, "show"), &SHOW)?;
     let hux = add(hux, on_file(alloc, "core"), &CORE)?;
@@ -149,8 +199,11 @@ pub(crate) fn program<'a>(alloc: Global) -> Result<Command<'a>, AllocError> {
     let hux = add(hux, unbundle(alloc), &UNBUNDLE)?;
     let hux = add(hux, plug(alloc), &PLUG)?;
     let hux = add(hux, play(alloc), &PLAY)?;
+    let hux = add(hux, call(alloc), &CALL)?;
     let hux = add(hux, live(alloc), &LIVE)?;
-    add(hux, stub(alloc), &STUB)
+    let hux = add(hux, stub(alloc), &STUB)?;
+    let hux = add(hux, explain(alloc), &EXPLAIN)?;
+    add(hux, diff(alloc), &DIFF)
 }
 
 /// The program with one command more.
@@ -193,7 +246,9 @@ fn link<'a>(alloc: Global) -> Result<Command<'a>, AllocError> {
     let export = choice(alloc, "export", "I")
         .help("Exports what this component does, not the last")
         .requires_arg("out")?;
-    on_files(alloc, "link")?.arg(bundle(alloc))?.arg(export)
+    let mermaid = flag(alloc, "mermaid").help("Prints a Mermaid graph of components and imports");
+    let link = on_files(alloc, "link")?.arg(bundle(alloc))?;
+    link.arg(export)?.arg(mermaid)
 }
 
 fn unbundle<'a>(alloc: Global) -> Result<Command<'a>, AllocError> {
@@ -224,7 +279,49 @@ fn bundle<'a>(alloc: Global) -> Arg<'a> {
 
 fn play<'a>(alloc: Global) -> Result<Command<'a>, AllocError> {
     let script = option(alloc, "script", "S").help("The file of the script");
-    on_files(alloc, "play")?.arg(script)
+    let values = flag(alloc, "values").help("Prints calls and results with their values");
+    let mermaid = flag(alloc, "mermaid")
+        .help("Prints a Mermaid sequence diagram of the calls")
+        .conflicts_with("values")?;
+    let messages = choice(alloc, "messages", "N")
+        .help("The most messages of the diagram [default: 100]")
+        .requires_arg("mermaid")?;
+    let play = on_files(alloc, "play")?.arg(script)?;
+    play.arg(values)?.arg(mermaid)?.arg(messages)
+}
+
+fn call<'a>(alloc: Global) -> Result<Command<'a>, AllocError> {
+    let script = choice(alloc, "script", "S").help("The file of the script of the other guests");
+    let call = Arg::new(alloc, "call")
+        .value_name("CALL")
+        .help("The call, as 'greet(\"world\")'")
+        .required(true);
+    on_files(alloc, "call")?.arg(script)?.arg(call)
+}
+
+fn explain<'a>(alloc: Global) -> Result<Command<'a>, AllocError> {
+    let what = Arg::new(alloc, "what")
+        .value_name("WHAT")
+        .help("A name, or a kind and a number")
+        .required(true)
+        .num_args(1..)
+        .action(ArgAction::Append);
+    Command::new(alloc, "explain").arg(what)
+}
+
+fn diff<'a>(alloc: Global) -> Result<Command<'a>, AllocError> {
+    let old = Arg::new(alloc, "old")
+        .value_name("A")
+        .help("What a user is made for")
+        .required(true);
+    let new = Arg::new(alloc, "new")
+        .value_name("B")
+        .help("What the user is to get")
+        .required(true);
+    let world = choice(alloc, "world", "N")
+        .help("The full name of the world of a WIT text; given again, that of B")
+        .action(ArgAction::Append);
+    Command::new(alloc, "diff").arg(old)?.arg(new)?.arg(world)
 }
 
 fn live<'a>(alloc: Global) -> Result<Command<'a>, AllocError> {
@@ -233,8 +330,9 @@ fn live<'a>(alloc: Global) -> Result<Command<'a>, AllocError> {
     let pages = choice(alloc, "pages", "N,N,..").help(
         "The pages of each component's memory; else what its core modules declare",
     );
+    let values = flag(alloc, "values").help("Tells calls and their values on standard error");
     let files = on_files(alloc, "live")?;
-    files.arg(record)?.arg(limit)?.arg(pages)
+    files.arg(record)?.arg(limit)?.arg(pages)?.arg(values)
 }
 
 fn stub<'a>(alloc: Global) -> Result<Command<'a>, AllocError> {
@@ -242,11 +340,13 @@ fn stub<'a>(alloc: Global) -> Result<Command<'a>, AllocError> {
         .short('o')
         .help("The file that is written")
         .required(true);
-    let caller = Arg::new(alloc, "caller")
-        .long("caller")
-        .help("A component that calls")
-        .action(ArgAction::SetTrue);
+    let caller = flag(alloc, "caller").help("A component that calls");
     on_files(alloc, "stub")?.arg(out)?.arg(caller)
+}
+
+/// An option without a value.
+fn flag<'a>(alloc: Global, name: &'a str) -> Arg<'a> {
+    Arg::new(alloc, name).long(name).action(ArgAction::SetTrue)
 }
 
 /// An option with a value, which may be given once.

@@ -5,4 +5,4 @@ mod commands;
 mod request;
 
 pub use commands::VERSION;
-pub use request::{Answer, BundleChoices, LiveChoices, Request, WordsFault};
+pub use request::{Answer, BundleChoices, Habits, LiveChoices, PlayChoices, Request, WordsFault};

@@ -26,10 +26,11 @@ pub enum Request<'a> {
         world: &'a str,
         file: &'a str,
     },
-    /// `link FILE.. [-o OUT [--export I]]`
+    /// `link FILE.. [-o OUT [--export I]] [--mermaid]`
     Link {
         files: Vec<&'a str>,
         bundle: BundleChoices<'a>,
+        mermaid: bool,
     },
     /// `unbundle FILE -o DIR`
     Unbundle {
@@ -42,12 +43,19 @@ pub enum Request<'a> {
         files: Vec<&'a str>,
         bundle: BundleChoices<'a>,
     },
-    /// `play --script S FILE..`
+    /// `play --script S FILE.. [--values] [--mermaid [--messages N]]`
     Play {
         script: &'a str,
         files: Vec<&'a str>,
+        choices: PlayChoices<'a>,
     },
-    /// `live FILE.. [--record SCRIPT] [--limit N] [--pages N,N,..]`
+    /// `call [--script S] FILE.. CALL`
+    Call {
+        script: Option<&'a str>,
+        files: Vec<&'a str>,
+        call: &'a str,
+    },
+    /// `live FILE.. [--record SCRIPT] [--limit N] [--pages N,N,..] [--values]`
     Live {
         files: Vec<&'a str>,
         choices: LiveChoices<'a>,
@@ -58,6 +66,36 @@ pub enum Request<'a> {
         caller: bool,
         out: &'a str,
     },
+    /// `explain WHAT..`
+    Explain {
+        words: Vec<&'a str>,
+    },
+    /// `diff A B [--world N [--world N]]`
+    Diff {
+        old: &'a str,
+        new: &'a str,
+        worlds: Vec<&'a str>,
+    },
+}
+
+/// How a command tells what it does.
+#[derive(Clone, Copy, Drop)]
+pub struct Habits {
+    /// As JSON, an object a line.
+    pub json: bool,
+    /// Only what is wrong.
+    pub quiet: bool,
+}
+
+/// What `play` prints beside or in place of its events.
+#[derive(Clone, Copy, Drop)]
+pub struct PlayChoices<'a> {
+    /// Calls and results with their values.
+    pub values: bool,
+    /// A sequence diagram.
+    pub mermaid: bool,
+    /// The most messages of the diagram: the word behind the option.
+    pub messages: Option<&'a str>,
 }
 
 /// Where a set is written as one file, if it is, and which component's exports that has: the words
@@ -74,13 +112,15 @@ pub struct LiveChoices<'a> {
     pub record: Option<&'a str>,
     pub limit: Option<&'a str>,
     pub pages: Option<&'a str>,
+    /// Whether calls and their values are told on standard error.
+    pub values: bool,
 }
 
 /// What words ask for.
 #[derive(Drop)]
 pub enum Answer<'a> {
-    /// A command.
-    Run(Request<'a>),
+    /// A command, and how it tells what it does.
+    Run(Request<'a>, Habits),
     /// A text: help, or the version.
     Text(String),
 }
@@ -113,7 +153,7 @@ impl<'a> Answer<'a> {
     /// that are no command are refused with `NoCommand`; `Memory` comes where there is no memory.
     pub fn read(alloc: Global, words: &'a [String]) -> Result<Answer<'a>, WordsFault> {
         match program(alloc)?.try_get_matches_from(words) {
-            Ok(matches) => Ok(Answer::Run(request_of(alloc, &matches)?)),
+            Ok(matches) => Ok(Answer::Run(request_of(alloc, &matches)?, habits_of(&matches))),
             Err(error) => text_of(alloc, &error),
         }
     }
@@ -129,6 +169,20 @@ fn text_of<'a>(alloc: Global, error: &Error) -> Result<Answer<'a>, WordsFault> {
         Err(WordsFault::NoCommand(text))
     } else {
         Ok(Answer::Text(text))
+    }
+}
+
+fn habits_of(matches: &ArgMatches<'_>) -> Habits {
+    match matches.subcommand() {
+        Some((_, found)) => habits_in(found),
+        None => habits_in(matches),
+    }
+}
+
+fn habits_in(found: &ArgMatches<'_>) -> Habits {
+    Habits {
+        json: found.get_flag("json"),
+        quiet: found.get_flag("quiet"),
     }
 }
 
@@ -149,8 +203,11 @@ fn request_of<'a>(alloc: Global, matches: &ArgMatches<'a>) -> Result<Request<'a>
         Some(("conform", found)) => conform_of(alloc, found),
         Some(("link", found)) => {
             let files = files_of(alloc, found, "files")?;
-            let bundle = bundle_of(found);
-            Ok(Request::Link { files, bundle })
+            Ok(Request::Link {
+                files,
+                bundle: bundle_of(found),
+                mermaid: found.get_flag("mermaid"),
+            })
         }
         Some(("unbundle", found)) => {
             let file = value_of(alloc, found, "file")?;
@@ -159,8 +216,14 @@ fn request_of<'a>(alloc: Global, matches: &ArgMatches<'a>) -> Result<Request<'a>
         }
         Some(("plug", found)) => plug_of(alloc, found),
         Some(("play", found)) => play_of(alloc, found),
+        Some(("call", found)) => call_of(alloc, found),
         Some(("live", found)) => live_of(alloc, found),
         Some(("stub", found)) => stub_of(alloc, found),
+        Some(("explain", found)) => {
+            let words = files_of(alloc, found, "what")?;
+            Ok(Request::Explain { words })
+        }
+        Some(("diff", found)) => diff_of(alloc, found),
         _ => Err(no_command(alloc)),
     }
 }
@@ -189,7 +252,36 @@ fn bundle_of<'a>(found: &ArgMatches<'a>) -> BundleChoices<'a> {
 fn play_of<'a>(alloc: Global, found: &ArgMatches<'a>) -> Result<Request<'a>, WordsFault> {
     let script = value_of(alloc, found, "script")?;
     let files = files_of(alloc, found, "files")?;
-    Ok(Request::Play { script, files })
+    let choices = PlayChoices {
+        values: found.get_flag("values"),
+        mermaid: found.get_flag("mermaid"),
+        messages: found.get_str("messages"),
+    };
+    Ok(Request::Play {
+        script,
+        files,
+        choices,
+    })
+}
+
+fn call_of<'a>(alloc: Global, found: &ArgMatches<'a>) -> Result<Request<'a>, WordsFault> {
+    let files = files_of(alloc, found, "files")?;
+    let call = value_of(alloc, found, "call")?;
+    Ok(Request::Call {
+        script: found.get_str("script"),
+        files,
+        call,
+    })
+}
+
+fn diff_of<'a>(alloc: Global, found: &ArgMatches<'a>) -> Result<Request<'a>, WordsFault> {
+    let old = value_of(alloc, found, "old")?;
+    let new = value_of(alloc, found, "new")?;
+    let worlds = match found.get_strs("world") {
+        Some(worlds) => worlds.to_vec(alloc)?,
+        None => Vec::new(alloc),
+    };
+    Ok(Request::Diff { old, new, worlds })
 }
 
 fn live_of<'a>(alloc: Global, found: &ArgMatches<'a>) -> Result<Request<'a>, WordsFault> {
@@ -198,6 +290,7 @@ fn live_of<'a>(alloc: Global, found: &ArgMatches<'a>) -> Result<Request<'a>, Wor
         record: found.get_str("record"),
         limit: found.get_str("limit"),
         pages: found.get_str("pages"),
+        values: found.get_flag("values"),
     };
     Ok(Request::Live { files, choices })
 }

@@ -1,34 +1,39 @@
 //! The program on the machine that it runs on.
 
 use cm_hux::{Disk, DiskStreams, Ending, Fault, ToolFault, Usage, report, run_hux, words_of};
+use cm_hux_colors::{Painter, is_colored};
 use std::io;
-use std::io::{BufWriter, Input, Write};
+use std::io::{BufWriter, Input, IsTerminal, Write};
 use std::rt::{Env, Files};
 
 /// Runs the command of the program's words, which come after its name, on the files of the disk,
-/// and answers how it ends.
-pub fn start<R: Env + Files + Input + AllocGlobal, O: Write + Drop, E: Write>(
-    rt: &R,
-    out: O,
-    err: &mut E,
-) -> Ending {
-    match run(rt, out, err) {
+/// and answers how it ends. Words that matter are colored where they go to a terminal.
+pub fn start<
+    R: Env + Files + Input + AllocGlobal,
+    O: Write + IsTerminal + Drop,
+    E: Write + IsTerminal,
+>(rt: &R, out: O, err: &mut E) -> Ending {
+    let is_colored = is_colored(rt, err.is_terminal());
+    let mut err = Painter::new(rt.alloc(), err, is_colored);
+    match run(rt, out, &mut err) {
         Ok(ending) => ending,
         Err(error) => {
             let fault = fault_of(&error);
-            report(err, &fault);
+            report(&mut err, &fault);
             fault.ending()
         }
     }
 }
 
-fn run<R: Env + Files + Input + AllocGlobal, O: Write + Drop, E: Write>(
+fn run<R: Env + Files + Input + AllocGlobal, O: Write + IsTerminal + Drop, E: Write>(
     rt: &R,
     out: O,
     err: &mut E,
 ) -> io::Result<Ending> {
     let words = words_of(rt)?;
-    let mut out = BufWriter::new(rt.alloc(), out)?;
+    let is_colored = is_colored(rt, out.is_terminal());
+    let out = BufWriter::new(rt.alloc(), out)?;
+    let mut out = Painter::new(rt.alloc(), out, is_colored);
     Ok(run_hux(
         rt.alloc(),
         words.as_slice(),

@@ -3,6 +3,7 @@
 #![tactic(auto)]
 
 mod junk;
+mod lines_read;
 mod mirrors;
 mod plans;
 mod random;
@@ -13,6 +14,7 @@ mod transcripts;
 use cm_hux::{Files, Streams, run_hux};
 use cm_rows::{Driver, Line, NamedFiles, Pipe, answer_families, word, words_from};
 use cm_rows_files::{MemoryFiles, Program, answer_run};
+use lines_read::{are_objects, is_json};
 use std::alloc::Global;
 use std::collections::VecDeque;
 use std::io;
@@ -21,8 +23,9 @@ use std::process::ExitCode;
 use transcripts::answer_on_set;
 
 /// The families of rows, a file each.
-const FAMILIES: [&str; 9] = [
-    "commands", "words", "shows", "real", "programs", "bundles", "lines", "streams", "plans",
+const FAMILIES: [&str; 14] = [
+    "commands", "words", "shows", "real", "programs", "plays", "scripts", "bundles", "explains",
+    "diffs", "lines", "streams", "plans", "json",
 ];
 
 /// The files that a program may write whose bytes are compared, where there are such.
@@ -119,10 +122,14 @@ impl Program for Hux {
         out: &mut Pipe,
         err: &mut Vec<u8>,
     ) -> u8 {
-        match MemoryStreams::new(alloc, files) {
-            Ok(mut streams) => run_hux(alloc, words, files, &mut streams, out, err).status(),
-            Err(_) => u8::MAX,
+        let Ok(mut streams) = MemoryStreams::new(alloc, files) else {
+            return u8::MAX;
+        };
+        let status = run_hux(alloc, words, files, &mut streams, out, err).status();
+        if is_json(words) && !are_objects(alloc, &out.taken) {
+            return u8::MAX;
         }
+        status
     }
 }
 

@@ -1,0 +1,260 @@
+//! What a component or a world lacks or has changed for those that use another.
+
+use cm_hux_diff::{Change, Difference, differences};
+use cm_hux_play::files::{
+    Ending, Escaped, Fault, Files, Object, ToolFault, Unfit, UnfitReason, conform_help, kept,
+    load_bytes, of_file, read_bytes, signature, tell, text_of, wit_help, world_help, world_of,
+};
+use cm_hux_words::Habits;
+use cm_tool_show::show;
+use cm_types_signatures::Signature;
+use cm_wit_conforms::{ConformReason, conforms};
+use std::alloc::{AllocError, Global};
+use std::io::Write;
+
+/// What a WebAssembly file begins with; others are texts.
+const MAGIC: &[u8] = b"\0asm";
+
+/// The files that are compared, and the worlds that were named.
+#[derive(Clone, Copy)]
+pub(crate) struct Compared<'a, 'w> {
+    pub(crate) old: &'a str,
+    pub(crate) new: &'a str,
+    pub(crate) worlds: &'w [&'a str],
+}
+
+/// The name of a file, and the bytes that it has.
+#[derive(Drop)]
+struct Read<'a> {
+    name: &'a str,
+    bytes: Vec<u8>,
+}
+
+impl<'a> Read<'a> {
+    fn is_text(&self) -> bool {
+        !self.bytes.starts_with(MAGIC)
+    }
+
+    /// What the component of the file imports and exports, or the world of the text.
+    fn signature(&self, alloc: Global, world: Option<&'a str>) -> Result<Signature, Fault<'a>> {
+        match world {
+            Some(world) if self.is_text() => self.world(alloc, world),
+            _ => self.component(alloc),
+        }
+    }
+
+    fn component(&self, alloc: Global) -> Result<Signature, Fault<'a>> {
+        let loaded = load_bytes(alloc, self.name, self.bytes.to_vec(alloc)?)?;
+        let checked = loaded.check(alloc)?;
+        Ok(signature(alloc, checked)?)
+    }
+
+    fn world(&self, alloc: Global, world: &'a str) -> Result<Signature, Fault<'a>> {
+        let text = match text_of(self.name, &self.bytes) {
+            Ok(text) => text,
+            Err(bad) => return Err(of_file(bad, String::new(alloc))),
+        };
+        match world_of(alloc, text, world) {
+            Ok(signature) => Ok(signature),
+            Err(reason) => Err(self.no_world(alloc, text, world, reason)),
+        }
+    }
+
+    /// The fault of a text that has no such world, with what it has.
+    fn no_world(
+        &self,
+        alloc: Global,
+        text: &str,
+        world: &'a str,
+        reason: UnfitReason,
+    ) -> Fault<'a> {
+        let tail = match reason {
+            UnfitReason::Wit(fault) => kept(alloc, wit_help(alloc, text, fault)),
+            UnfitReason::World(fault) => kept(alloc, world_help(alloc, text, fault)),
+            UnfitReason::Signature(_) | UnfitReason::Memory => String::new(alloc),
+        };
+        let unfit = Unfit {
+            wit: self.name,
+            world,
+            file: self.name,
+            reason,
+        };
+        Fault::Tool(ToolFault::Unfit { unfit, tail })
+    }
+}
+
+/// Prints what differs, a line each, and `ok` where it breaks nothing for who uses the old one.
+pub(crate) fn run_diff<'a, F: Files, O: Write>(
+    alloc: Global,
+    compared: Compared<'a, '_>,
+    habits: Habits,
+    files: &mut F,
+    out: &mut O,
+) -> Result<Ending, Fault<'a>> {
+    let Compared { old, new, worlds } = compared;
+    let old = Read {
+        name: old,
+        bytes: read_bytes(alloc, files, old)?,
+    };
+    let new = Read {
+        name: new,
+        bytes: read_bytes(alloc, files, new)?,
+    };
+    let (of_old, of_new) = worlds_of(alloc, &old, &new, worlds)?;
+    let before = old.signature(alloc, of_old)?;
+    let after = new.signature(alloc, of_new)?;
+    let was = shown(alloc, old.name, &before)?;
+    let is = shown(alloc, new.name, &after)?;
+    let found = differences(alloc, &was, &is)?;
+    let telling = Telling { alloc, habits };
+    let mut is_broken = telling.tell_differences(&found, out)?;
+    if !is_broken && !found.iter().any(|it| it.is_renamed()) {
+        is_broken = telling.tell_unfit(&before, &after, out)?;
+    }
+    telling.tell_end(is_broken, out)?;
+    Ok(if is_broken {
+        Ending::Refused
+    } else {
+        Ending::Done
+    })
+}
+
+/// The worlds of the two files: those that are texts have one each, in order, or both the only one
+/// that was named.
+fn worlds_of<'a>(
+    alloc: Global,
+    old: &Read<'a>,
+    new: &Read<'a>,
+    worlds: &[&'a str],
+) -> Result<(Option<&'a str>, Option<&'a str>), Fault<'a>> {
+    match (old.is_text(), new.is_text(), worlds) {
+        (false, false, []) => Ok((None, None)),
+        (true, false, [world]) => Ok((Some(*world), None)),
+        (false, true, [world]) => Ok((None, Some(*world))),
+        (true, true, [world]) => Ok((Some(*world), Some(*world))),
+        (true, true, [first, second]) => Ok((Some(*first), Some(*second))),
+        (_, _, []) => Err(no_world_named(alloc, if old.is_text() { old.name } else { new.name })?),
+        _ => Err(many_worlds(alloc)?),
+    }
+}
+
+fn no_world_named(alloc: Global, name: &str) -> Result<Fault<'static>, Fault<'static>> {
+    let name = Escaped(name);
+    Ok(Fault::Usage(format!(in alloc;
+        "error: {name} is a text, of which --world names the world\n"
+    )?))
+}
+
+fn many_worlds(alloc: Global) -> Result<Fault<'static>, Fault<'static>> {
+    Ok(Fault::Usage(String::from_str(
+        alloc,
+        "error: --world names more worlds than there are texts\n",
+    )?))
+}
+
+/// The text that shows a signature.
+fn shown<'a>(alloc: Global, name: &'a str, of: &Signature) -> Result<String, Fault<'a>> {
+    match show(alloc, of) {
+        Ok(text) => Ok(text),
+        Err(fault) => Err(Fault::Tool(ToolFault::Show { name, fault })),
+    }
+}
+
+/// How differences are told.
+#[derive(Clone, Copy)]
+struct Telling {
+    alloc: Global,
+    habits: Habits,
+}
+
+impl Telling {
+    /// Tells each difference, or only what is broken, and answers whether something is.
+    fn tell_differences<O: Write>(
+        self,
+        found: &[Difference<'_>],
+        out: &mut O,
+    ) -> Result<bool, Fault<'static>> {
+        let mut is_broken = false;
+        for difference in found {
+            is_broken = is_broken || !difference.is_harmless;
+            if !(self.habits.quiet && difference.is_harmless) {
+                self.tell_difference(difference, out)?;
+            }
+        }
+        Ok(is_broken)
+    }
+
+    fn tell_difference<O: Write>(
+        self,
+        difference: &Difference<'_>,
+        out: &mut O,
+    ) -> Result<(), Fault<'static>> {
+        if self.habits.json {
+            return tell(difference_object(self.alloc, difference)?, out);
+        }
+        writeln!(out, "{difference}")?;
+        Ok(())
+    }
+
+    /// Whether the new signature does not conform to the old one, where no difference says so: that
+    /// is told then. Interfaces of other versions are not looked at so.
+    fn tell_unfit<O: Write>(
+        self,
+        old: &Signature,
+        new: &Signature,
+        out: &mut O,
+    ) -> Result<bool, Fault<'static>> {
+        let fault = match conforms(self.alloc, new, old) {
+            Ok(()) => return Ok(false),
+            Err(fault) if fault.reason == ConformReason::Memory => return Err(Fault::Memory),
+            Err(fault) => fault,
+        };
+        let tail = kept(self.alloc, conform_help(self.alloc, new, old, fault));
+        if self.habits.json {
+            let object = Object::new(self.alloc).with_shown("change", &fault)?;
+            tell(object.with("harmless", false)?, out)?;
+        } else {
+            writeln!(out, "{fault}{tail}")?;
+        }
+        Ok(true)
+    }
+
+    /// Tells whether nothing is broken.
+    fn tell_end<O: Write>(self, is_broken: bool, out: &mut O) -> Result<(), Fault<'static>> {
+        if self.habits.json {
+            tell(Object::new(self.alloc).with("ok", !is_broken)?, out)?;
+        } else if !is_broken && !self.habits.quiet {
+            writeln!(out, "ok")?;
+        }
+        out.flush()?;
+        Ok(())
+    }
+}
+
+/// A difference as an object.
+fn difference_object(alloc: Global, difference: &Difference<'_>) -> Result<Object, AllocError> {
+    let object = Object::new(alloc).with_shown("side", &difference.side)?;
+    let object = object.with("name", difference.name)?;
+    let object = object.with("harmless", difference.is_harmless)?;
+    let object = match difference.item {
+        Some(item) => object.with("item", item)?,
+        None => object,
+    };
+    match &difference.change {
+        Change::Gone { other } => with_other(object.with("change", "gone")?, *other),
+        Change::New { other } => with_other(object.with("change", "new")?, *other),
+        Change::Changed { was, is } => {
+            let object = object.with("change", "changed")?.with("was", was.as_str())?;
+            object.with("is", is.as_str())
+        }
+        Change::Renamed { is } => object.with("change", "renamed")?.with("is", *is),
+    }
+}
+
+/// With the other version of an interface that is there, if there is one.
+fn with_other(object: Object, other: Option<&str>) -> Result<Object, AllocError> {
+    match other {
+        Some(other) => object.with("other", other),
+        None => Ok(object),
+    }
+}

@@ -1,0 +1,94 @@
+//! A call as a word of the command line says it: `NAME(VALUES)`.
+
+use cm_hux_drive::files::{Escaped, Fault};
+use cm_types::{Func, TypeNode, TypeTree, Value};
+use cm_values_parse::parse;
+use std::alloc::{AllocError, Global};
+use std::rc::Rc;
+
+/// A call: the name of a function, and its arguments as a text in parentheses.
+#[derive(Drop)]
+pub(crate) struct CallText<'a> {
+    /// The whole text.
+    text: &'a str,
+    /// `function`, or `interface#function` for one of an instance.
+    pub(crate) name: String,
+    /// Where the arguments begin, in bytes.
+    at: usize,
+}
+
+impl<'a> CallText<'a> {
+    /// The call that a text says. The name ends where the first parenthesis stands. In the name of
+    /// a function of an instance its last `.` may stand for `#`.
+    pub(crate) fn read(alloc: Global, text: &'a str) -> Result<CallText<'a>, Fault<'a>> {
+        match text.split_once('(') {
+            Some((name, rest)) if !name.is_empty() && rest.trim_end().ends_with(')') => {
+                Ok(CallText {
+                    text,
+                    name: full_name(alloc, name)?,
+                    at: name.len(),
+                })
+            }
+            _ => Err(Fault::Usage(format!(in alloc;
+                "error: {text}: no call, expected NAME(VALUES)"
+            )?)),
+        }
+    }
+
+    /// The arguments, of the types of the parameters of a function.
+    pub(crate) fn args(&self, alloc: Global, func: &Func) -> Result<Vec<Value>, Fault<'a>> {
+        let values = self.text.get(self.at..).unwrap_or("");
+        if func.params.is_empty() {
+            return self.no_args(alloc, values);
+        }
+        let Some(tuple) = tuple_of(alloc, func)? else {
+            return Err(self.refuse(alloc, "parameters that are too many")?);
+        };
+        match parse(alloc, values.as_bytes(), &tuple) {
+            Ok(Value::Fields(args)) => Ok(args),
+            Ok(_) => Err(self.refuse(alloc, "no arguments")?),
+            Err(fault) => {
+                let at = self.at.saturating_add(fault.at);
+                let reason = fault.reason;
+                Err(self.refuse(alloc, format!(in alloc; "at {at}: {reason}")?.as_str())?)
+            }
+        }
+    }
+
+    /// No arguments, where the parentheses have none in them.
+    fn no_args(&self, alloc: Global, values: &str) -> Result<Vec<Value>, Fault<'a>> {
+        match values.trim().strip_prefix('(') {
+            Some(rest) if rest.trim() == ")" => Ok(Vec::new(alloc)),
+            _ => Err(self.refuse(alloc, "the function has no parameters")?),
+        }
+    }
+
+    /// The fault of the call: a text on what is wrong.
+    pub(crate) fn refuse(&self, alloc: Global, text: &str) -> Result<Fault<'a>, AllocError> {
+        let call = Escaped(self.text);
+        Ok(Fault::Refused(format!(in alloc; "{call}: {text}")?))
+    }
+}
+
+/// The name of a function, with `#` behind that of its interface.
+fn full_name(alloc: Global, name: &str) -> Result<String, AllocError> {
+    if name.contains('#') || !name.contains('/') {
+        return String::from_str(alloc, name);
+    }
+    match name.rsplit_once('.') {
+        Some((interface, function)) => format!(in alloc; "{interface}#{function}"),
+        None => String::from_str(alloc, name),
+    }
+}
+
+/// The tuple of the parameters of a function; none where it is too large.
+fn tuple_of(alloc: Global, func: &Func) -> Result<Option<TypeTree>, AllocError> {
+    let mut parts = Vec::with_capacity(alloc, func.params.len())?;
+    for field in &func.params {
+        parts.push(field.ty.share()?)?;
+    }
+    match TypeTree::new(TypeNode::Tuple(Rc::new(alloc, parts)?)) {
+        Ok(tree) => Ok(Some(tree)),
+        Err(_) => Ok(None),
+    }
+}

@@ -1,0 +1,17 @@
+//! Plays of scripts of `hux`: their moves are made, their checks too, and a watcher is told.
+#![tactic(auto)]
+
+mod checked;
+mod checking;
+mod core_names;
+mod driving;
+mod looking;
+mod scripts;
+
+pub use checked::{Watching, play_script, seats_of};
+pub use checking::Checks;
+pub use cm_hux_files as files;
+pub use cm_hux_script::{HuxScript, Moment, Script};
+pub use core_names::Names;
+pub use driving::{Driven, Played, Seat, drive};
+pub use scripts::load_script;

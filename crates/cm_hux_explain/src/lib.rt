@@ -1,0 +1,18 @@
+//! What traps, misuses and reasons mean, their usual causes, and what to do.
+//!
+//! What is said stands in `explained.toml`, and what each means in docs/RULES.md and on the pages
+//! of crates; the rows are written of both, by checks/explained.
+#![tactic(auto)]
+
+mod asked;
+mod fault;
+mod row;
+mod rows;
+mod trapped;
+
+pub use asked::{Found, find, write_found};
+pub use cm_machine_model::Trap;
+pub use fault::ExplainFault;
+pub use row::Row;
+pub use rows::all_rows;
+pub use trapped::{LastMove, explain_trap};

@@ -1,0 +1,184 @@
+//! Why a command ends early, and what is said of it.
+
+ghost use Rattle.std.specs.Prelude.{◌≡◌};
+ghost use Rattle.cm_tool.specs.cm_tool_commands.Statuses as tool;
+ghost use Rattle.cm_tool.specs.cm_tool_commands.cm_tool_files.Numbers.{file_status};
+ghost use Rattle.cm_hux_files.specs.Endings.{ending_status, fault_status};
+ghost use Rattle.cm_hux_files.specs.declared.fault.Fault.TheVariants as fault;
+
+use crate::ending::Ending;
+use cm_binary_model::LimitFault;
+use cm_hux_bundles::Trouble;
+use cm_shims::{FitFault, PlainFault};
+use cm_stubs::StubFault;
+use cm_tool::{Fault as ToolFault, FileReason};
+use cm_tool_text::Escaped;
+use std::alloc::{AllocError, AllocFailed};
+use std::io::Write;
+use std::{fmt, io};
+
+/// What is said on standard error. A name is the word of the command line.
+#[derive(Drop)]
+pub enum Fault<'a> {
+    /// The words are no command: what is wrong, and what is expected.
+    Usage(String),
+    /// An item of a file with shims cannot be followed.
+    Plain { name: &'a str, fault: PlainFault },
+    /// What a file with shims stands for does not keep the limits of files.
+    Limit { name: &'a str, fault: LimitFault },
+    /// What the shims of a file want of its functions and types does not hold.
+    Unmet { name: &'a str, fault: FitFault },
+    /// No stub is made.
+    Stub(StubFault),
+    /// A bundle is not made or taken.
+    Bundle(Trouble<'a>),
+    /// A file cannot be written.
+    Unwritten { name: &'a str },
+    /// What `live` reads from or writes to failed, or there was no memory for a line.
+    Streams,
+    /// So many moves were made, which are the most that `live` was to make.
+    Moves { limit: u64 },
+    /// What a script or a call says is refused, in words.
+    Refused(String),
+    /// What `component_tool` says alike.
+    Tool(ToolFault<'a>),
+    /// There was no memory.
+    Memory,
+    /// Standard output cannot be written.
+    Output,
+}
+
+impl Fault<'_> {
+    /// How a command ends that ends by this fault: `Usage` where the words are no command, `Unread`
+    /// where a file or a stream cannot be read or written, else `Refused`.
+    pub fn ending(&self) -> Ending
+        ensures { ending_status result ≡ fault_status self.now }
+    {
+        match self {
+            Fault::Usage(_) => Ending::Usage,
+            Fault::Plain { .. }
+            | Fault::Limit { .. }
+            | Fault::Unmet { .. }
+            | Fault::Stub(_)
+            | Fault::Bundle(_)
+            | Fault::Moves { .. }
+            | Fault::Refused(_)
+            | Fault::Memory => Ending::Refused,
+            Fault::Unwritten { .. } | Fault::Streams | Fault::Output => Ending::Unread,
+            Fault::Tool(fault) => ending_of_tool(fault),
+        }
+    }
+}
+
+/// How a command ends by a fault that `component_tool` has too.
+fn ending_of_tool(fault: &ToolFault<'_>) -> Ending
+    ensures { ending_status result ≡ tool.fault_status fault.now }
+{
+    match fault {
+        ToolFault::Usage(_) => Ending::Usage,
+        ToolFault::Output => Ending::Unread,
+        ToolFault::File { bad, .. } => ending_of_file(bad.reason),
+        ToolFault::Memory
+        | ToolFault::Show { .. }
+        | ToolFault::Unfit { .. }
+        | ToolFault::Link { .. }
+        | ToolFault::Script(_)
+        | ToolFault::Set { .. }
+        | ToolFault::Begin { .. }
+        | ToolFault::Limit { .. } => Ending::Refused,
+    }
+}
+
+/// How a command ends by a file that is not what it wants.
+fn ending_of_file(reason: FileReason) -> Ending
+    ensures { ending_status result ≡ file_status reason }
+{
+    match reason {
+        FileReason::Unread(_) => Ending::Unread,
+        FileReason::NoComponent { .. } | FileReason::NotValid(_) | FileReason::NoText(_) => {
+            Ending::Refused
+        }
+    }
+}
+
+impl<'a> From<ToolFault<'a>> for Fault<'a> {
+    ghost from_gives = { λ e f. f ≡ fault.Tool e };
+
+    fn from(fault: ToolFault<'a>) -> Self {
+        Fault::Tool(fault)
+    }
+}
+
+impl<'a> From<Trouble<'a>> for Fault<'a> {
+    fn from(trouble: Trouble<'a>) -> Self {
+        match trouble {
+            Trouble::Memory => Fault::Memory,
+            _ => Fault::Bundle(trouble),
+        }
+    }
+}
+
+impl From<AllocError> for Fault<'_> {
+    ghost from_gives = { λ _ f. f ≡ fault.Memory };
+
+    fn from(_error: AllocError) -> Self {
+        Fault::Memory
+    }
+}
+
+impl<T: Drop> From<AllocFailed<T>> for Fault<'_> {
+    ghost from_gives = { λ _ f. f ≡ fault.Memory };
+
+    fn from(_error: AllocFailed<T>) -> Self {
+        Fault::Memory
+    }
+}
+
+impl From<io::Error> for Fault<'_> {
+    ghost from_gives = { λ _ f. f ≡ fault.Output };
+
+    fn from(_error: io::Error) -> Self {
+        Fault::Output
+    }
+}
+
+impl fmt::Display for Fault<'_> {
+    fn fmt<W: fmt::Write>(&self, f: &mut fmt::Formatter<W>) -> fmt::Result {
+        match self {
+            Fault::Usage(text) => f.write_str(text.as_str()),
+            Fault::Plain { name, fault } => write!(f, "{}: {fault}", Escaped(name)),
+            Fault::Limit { name, fault } => write!(f, "{}: {fault}", Escaped(name)),
+            Fault::Unmet { name, fault } => write!(f, "{}: {fault}", Escaped(name)),
+            Fault::Stub(fault) => write!(f, "{fault}"),
+            Fault::Bundle(trouble) => write!(f, "{trouble}"),
+            Fault::Unwritten { name } => {
+                write!(f, "{}: Write: it cannot be written", Escaped(name))
+            }
+            Fault::Streams => f.write_str(
+                "standard input, standard output or the record failed, or no memory for a line",
+            ),
+            Fault::Moves { limit } => write!(f, "limit: {limit} moves were made"),
+            Fault::Refused(text) => f.write_str(text.as_str()),
+            Fault::Tool(fault) => write!(f, "{fault}"),
+            Fault::Memory => write!(f, "{}", ToolFault::Memory),
+            Fault::Output => write!(f, "{}", ToolFault::Output),
+        }
+    }
+}
+
+/// Reports a fault: a line that begins with `error: `, or of words that are no command a text that
+/// does. Where that fails too, there is nobody left to tell.
+pub fn report<E: Write>(err: &mut E, fault: &Fault) {
+    let _ = match fault {
+        Fault::Usage(text) => write_lines(err, text.as_str()),
+        _ => writeln!(err, "error: {fault}"),
+    };
+}
+
+/// Writes the lines of a text, in which a word of the command line may stand as it was given.
+fn write_lines<E: Write>(err: &mut E, text: &str) -> io::Result<()> {
+    for line in text.lines() {
+        writeln!(err, "{}", Escaped(line))?;
+    }
+    Ok(())
+}

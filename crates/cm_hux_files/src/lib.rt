@@ -1,0 +1,36 @@
+//! What the commands of `hux` share: files, faults, endings, and who watches a play.
+//!
+//! Each reads component files that may have shims, as the standard tool chain writes them.
+#![tactic(auto)]
+
+mod ending;
+mod fault;
+mod fault_objects;
+mod loading;
+mod sets;
+mod stop;
+mod streams;
+mod watcher;
+
+pub use cm_hux_bundles::{Bundle, made, open_imports, read_bundle, write_arguments};
+pub use cm_hux_json::{Object, ToValue, Value, event_object, line_of};
+pub use cm_stubs::{Component, StubFault, caller, caller_for, provider_for};
+pub use cm_tool::{
+    Asked, Checked, Disk, Event, Fault as ToolFault, FileFault, Files, LIMIT, Linked, Misuse, Move,
+    Outcome, Set, Unfit, UnfitReason, Usage, checked_of, conform_component, link, read_file,
+    signature, text_of, words_of, world_of, write_plan,
+};
+pub use cm_tool_help_texts::{wit_help, world_help};
+pub use cm_tool_help_types::conform_help;
+pub use cm_tool_text::Escaped;
+pub use cm_validate_functions::Functions;
+pub use ending::Ending;
+pub use fault::{Fault, report};
+pub use fault_objects::{fault_object, tell, tell_bytes, tell_fault};
+pub use loading::{
+    Loaded, LoadedFiles, kept, load_bytes, load_file, load_files, of_file, read_bytes,
+};
+pub use sets::make_set;
+pub use stop::{Stop, told};
+pub use streams::{DiskStreams, Streams, create, write_file, write_whole};
+pub use watcher::Watcher;

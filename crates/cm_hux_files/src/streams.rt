@@ -1,0 +1,89 @@
+//! What `live` reads its lines from, and where files are written.
+
+use crate::fault::Fault;
+use std::alloc::Global;
+use std::io::{BufRead, BufReader, BufWriter, Input, Write};
+use std::{fs, io, rt};
+
+/// The input of a program, and files that it writes.
+pub trait Streams {
+    type Reader: BufRead + Drop;
+
+    type Writer: Write + Drop;
+
+    /// The input.
+    fn reader(&mut self, alloc: Global) -> io::Result<Self::Reader>;
+
+    /// A file of this name, with nothing in it.
+    fn create(&mut self, alloc: Global, name: &str) -> io::Result<Self::Writer>;
+
+    /// A folder of this name, if there is none.
+    fn create_folder(&mut self, name: &str) -> io::Result<()>;
+}
+
+/// A file of this name, with nothing in it.
+pub fn create<'a, S: Streams>(
+    alloc: Global,
+    streams: &mut S,
+    name: &'a str,
+) -> Result<S::Writer, Fault<'a>> {
+    match streams.create(alloc, name) {
+        Ok(writer) => Ok(writer),
+        Err(_) => Err(Fault::Unwritten { name }),
+    }
+}
+
+/// Writes a file of this name, with these bytes in it.
+pub fn write_file<'a, S: Streams>(
+    alloc: Global,
+    streams: &mut S,
+    name: &'a str,
+    bytes: &[u8],
+) -> Result<(), Fault<'a>> {
+    match write_whole(alloc, streams, name, bytes) {
+        Ok(()) => Ok(()),
+        Err(_) => Err(Fault::Unwritten { name }),
+    }
+}
+
+/// The same, with the error of what failed.
+pub fn write_whole<S: Streams>(
+    alloc: Global,
+    streams: &mut S,
+    name: &str,
+    bytes: &[u8],
+) -> io::Result<()> {
+    let mut out = streams.create(alloc, name)?;
+    out.write_all(bytes)?;
+    out.flush()
+}
+
+/// The standard input and the files of the machine that the program runs on.
+#[derive(Drop)]
+pub struct DiskStreams<'r, R> {
+    rt: &'r R,
+}
+
+impl<'r, R> DiskStreams<'r, R> {
+    pub fn new(rt: &'r R) -> DiskStreams<'r, R> {
+        DiskStreams { rt }
+    }
+}
+
+impl<R: rt::Files + Input + AllocGlobal> Streams for DiskStreams<'_, R> {
+    type Reader = BufReader<R::Reader>;
+
+    type Writer = BufWriter<R::File>;
+
+    fn reader(&mut self, alloc: Global) -> io::Result<BufReader<R::Reader>> {
+        BufReader::new(alloc, self.rt.reader())
+    }
+
+    fn create(&mut self, alloc: Global, name: &str) -> io::Result<BufWriter<R::File>> {
+        BufWriter::new(alloc, fs::create(self.rt, name)?)
+    }
+
+    fn create_folder(&mut self, name: &str) -> io::Result<()> {
+        fs::create_dir_all(self.rt, name)
+    }
+}

@@ -1,0 +1,22 @@
+//! What components say to one another in a play: calls and results, by names, with their values.
+//!
+//! A `Watch` is told of each move before it is made and of each event after it, and tells a
+//! `Message` of what passed. Values are those of the proved `lift` in the view of who gives them.
+#![tactic(auto)]
+
+mod bounded;
+mod called;
+mod frames;
+mod lines;
+mod messages;
+mod naming;
+mod passing;
+mod watch;
+mod wording;
+
+pub use bounded::MAX_WORDS;
+pub use cm_match::Linked;
+pub use cm_tool_text::is_hidden;
+pub use lines::{Participant, component_name, write_message};
+pub use messages::{Message, Spoken, Trapping};
+pub use watch::{Actor, Watch};

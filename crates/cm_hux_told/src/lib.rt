@@ -1,0 +1,20 @@
+//! Who watches a play and tells of it, as lines, objects or a diagram.
+//!
+//! Events are told, or what components say to one another.
+#![tactic(auto)]
+
+mod charted;
+mod named;
+mod said_lines;
+mod said_objects;
+mod telling;
+mod told_events;
+
+pub use charted::SaidChart;
+pub use cm_hux_charts::{Diagram, Watch, write_graph};
+pub use cm_hux_files as files;
+pub use named::component_names;
+pub use said_lines::SaidLines;
+pub use said_objects::SaidObjects;
+pub use telling::{Teller, Telling};
+pub use told_events::ToldEvents;
