@@ -3,15 +3,13 @@ use Rattle.std.proofs.Common.{◌≡◌, ℕ, zero, suc, ◌<◌, Bool, true, fa
 use Rattle.std.specs.List.{flat_map}
 use Rattle.std.proofs.lemmas.Slice.Eq.{bytes_eq-Decides}
 use Rattle.cm_wit_tokens.specs.declared.keyword.Keyword.{Keyword}
-use Rattle.cm_wit_tokens.specs.declared.keyword.Keyword.TheVariants as word
 use Rattle.cm_wit_tokens.specs.declared.operator.Operator.{Operator}
-use Rattle.cm_wit_tokens.specs.declared.operator.Operator.TheVariants as operator
 use Rattle.cm_wit_tokens.specs.declared.token.Form.{Form}
 use Rattle.cm_wit_tokens.specs.declared.token.Form.TheVariants as form
 use Rattle.cm_wit_tokens.specs.declared.token.Token.{Token}
 use Rattle.cm_wit_tokens.specs.Forms.{is_operator, is_keyword}
-use Rattle.cm_wit_tokens.specs.Keywords.{spelling, keyword_of}
-use Rattle.cm_wit_tokens.specs.Operators.{operator_spelling, operator_of}
+use Rattle.cm_wit_tokens.specs.Keywords.{spelling}
+use Rattle.cm_wit_tokens.specs.Operators.{operator_spelling}
 use Rattle.cm_wit_tokens.specs.declared.fault.WitReason.{WitReason}
 use Rattle.cm_wit_tokens.specs.declared.fault.WitReason.TheVariants as reason
 use Rattle.cm_wit_tokens.specs.Faults.{Fault}
@@ -23,91 +21,25 @@ use Rattle.cm_wit_package.proofs.Lexing.{forms}
 use Rattle.cm_wit_package.specs.Words.{words}
 use Rattle.cm_wit_package.proofs.Chains.{pair_is, pair_of, Behind, split, behind_length, first_form, first_form_append, behind_first, words_append, Canon, Law, table_law}
 use Rattle.cm_wit_tokens.proofs.FaultsLaws.{ok_of}
-use Rattle.cm_lemmas.proofs.Options.{some_is}
+use Rattle.cm_wit_tokens.proofs.SpellingLaws.{one_operator, one_keyword}
 use Rattle.cm_wit_tokens.proofs.Tools.{then_from_ok, then_ok}
 use Rattle.cm_wit_tokens.proofs.ListLaws.{turn}
 
 -- ---- operators and keywords are the same where their texts are
 
-operator_from : List ℕ → Option Operator
-operator_from [] = None
-operator_from (b ∷ []) = operator_of b
-operator_from (b ∷ c ∷ rest) = Some operator.Arrow
-
-from_spelling : (o : Operator) → operator_from (operator_spelling o) ≡ Some o
-unfolding operator_from
-from_spelling operator.Equals = refl
-from_spelling operator.Comma = refl
-from_spelling operator.Colon = refl
-from_spelling operator.Semicolon = refl
-from_spelling operator.LeftParenthesis = refl
-from_spelling operator.RightParenthesis = refl
-from_spelling operator.LeftBrace = refl
-from_spelling operator.RightBrace = refl
-from_spelling operator.LessThan = refl
-from_spelling operator.GreaterThan = refl
-from_spelling operator.Arrow = refl
-from_spelling operator.Slash = refl
-from_spelling operator.Period = refl
-from_spelling operator.At = refl
-from_spelling operator.Underscore = refl
-
 pub operator_is : (o : Operator) (f : Form) → is_operator o f ≡ true → f ≡ form.Operator o
 operator_is o (form.Operator p) h =
     let same = (bytes_eq-Decides (operator_spelling p) (operator_spelling o)).0 h in
-    ap (λ (q : Operator). form.Operator q) (some_is p o (sym (from_spelling p) ∙ (ap operator_from same ∙ from_spelling o)))
+    ap (λ (q : Operator). form.Operator q) (one_operator p o same)
 operator_is o (form.Keyword k) h = absurd cc
 operator_is o (form.Identifier w) h = absurd cc
 operator_is o (form.Version v) h = absurd cc
 operator_is o (form.Integer n) h = absurd cc
 
-keyword_spelling : (k : Keyword) → keyword_of (spelling k) ≡ Some k
-unfolding keyword_of
-keyword_spelling word.Package = refl
-keyword_spelling word.Interface = refl
-keyword_spelling word.World = refl
-keyword_spelling word.Use = refl
-keyword_spelling word.As = refl
-keyword_spelling word.Type = refl
-keyword_spelling word.Record = refl
-keyword_spelling word.Variant = refl
-keyword_spelling word.Enum = refl
-keyword_spelling word.Flags = refl
-keyword_spelling word.Resource = refl
-keyword_spelling word.Func = refl
-keyword_spelling word.Static = refl
-keyword_spelling word.Constructor = refl
-keyword_spelling word.Import = refl
-keyword_spelling word.Export = refl
-keyword_spelling word.Include = refl
-keyword_spelling word.List = refl
-keyword_spelling word.Option = refl
-keyword_spelling word.Result = refl
-keyword_spelling word.Tuple = refl
-keyword_spelling word.Own = refl
-keyword_spelling word.Borrow = refl
-keyword_spelling word.Bool = refl
-keyword_spelling word.S8 = refl
-keyword_spelling word.S16 = refl
-keyword_spelling word.S32 = refl
-keyword_spelling word.S64 = refl
-keyword_spelling word.U8 = refl
-keyword_spelling word.U16 = refl
-keyword_spelling word.U32 = refl
-keyword_spelling word.U64 = refl
-keyword_spelling word.F32 = refl
-keyword_spelling word.F64 = refl
-keyword_spelling word.Char = refl
-keyword_spelling word.String = refl
-keyword_spelling word.Stream = refl
-keyword_spelling word.Future = refl
-keyword_spelling word.Async = refl
-keyword_spelling word.From = refl
-
 pub keyword_is : (k : Keyword) (f : Form) → is_keyword k f ≡ true → f ≡ form.Keyword k
 keyword_is k (form.Keyword l) h =
     let same = (bytes_eq-Decides (spelling l) (spelling k)).0 h in
-    ap (λ (q : Keyword). form.Keyword q) (some_is l k (sym (keyword_spelling l) ∙ (ap keyword_of same ∙ keyword_spelling k)))
+    ap (λ (q : Keyword). form.Keyword q) (one_keyword l k same)
 keyword_is k (form.Operator o) h = absurd cc
 keyword_is k (form.Identifier w) h = absurd cc
 keyword_is k (form.Version v) h = absurd cc

@@ -39,7 +39,7 @@ fn nth_name(mut tokens: VecDeque<Token>, number: usize) -> Option<Token>
 pub fn name_place(alloc: Global, text: &str, number: usize) -> Result<usize, AllocError>
     ensures { IfOk result (λ at. at ≡ name_place text.now number) }
 {
-    let Lexed { tokens, .. } = Lexed::of_text(alloc, text.as_bytes())?;
+    let Lexed { tokens, .. } = Lexed::of_text(alloc, text)?;
     match nth_name(tokens, number) {
         Some(token) => Ok(text.len().saturating_sub(token.left)),
         None => Ok(text.len()),

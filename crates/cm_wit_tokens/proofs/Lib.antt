@@ -2,6 +2,7 @@ mod RunLaws
 mod CommentLaws
 mod DigitLaws
 mod FrontLaws
+mod BoundaryLaws
 mod LexedLaws
 pub mod Tools
 pub mod Laws
@@ -12,5 +13,6 @@ pub mod MostLaws
 pub mod WholeLaws
 pub mod TextLaws
 mod KeywordLaws
+pub mod SpellingLaws
 pub mod FaultsLaws
 pub mod ReadLaws

@@ -1,5 +1,5 @@
 -- What one more byte does to a run.
-use Rattle.std.proofs.Common.{◌≡◌, ℕ, zero, suc, ◌+◌, ◌<◌, ◌≤◌, Bool, true, false, List, [], ◌∷◌, ◌≢◌, length, take, drop, get_or, refl, ap, subst, ◌∙◌, arith}
+use Rattle.std.proofs.Common.{◌≡◌, ℕ, zero, suc, ◌+◌, ◌<◌, ◌≤◌, Bool, true, false, List, [], ◌∷◌, ◌≢◌, length, take, drop, get_or, refl, sym, ap, subst, ◌∙◌, arith}
 use Rattle.std.proofs.lemmas.List.{drop_more, drop_all}
 use Rattle.std.specs.Str.{IsAscii}
 use Rattle.std.proofs.lemmas.Bool.Decides.{nat_tests}
@@ -7,7 +7,7 @@ use Rattle.cm_wit_tokens.specs.declared.run.Run.{Run}
 use Rattle.cm_wit_tokens.specs.declared.run.Run.TheVariants as run
 use Rattle.cm_wit_tokens.specs.Runs.{belongs, goes_on, run_length}
 
-first_goes : (k : Run) (b : ℕ) (rest : List ℕ) → goes_on k (b ∷ rest) ≡ true → run_length k (b ∷ rest) ≡ suc (run_length k rest)
+pub first_goes : (k : Run) (b : ℕ) (rest : List ℕ) → goes_on k (b ∷ rest) ≡ true → run_length k (b ∷ rest) ≡ suc (run_length k rest)
 unfolding run_length
 first_goes k b rest h = rw h refl
 
@@ -26,6 +26,13 @@ run_goes k text i lt h =
 pub run_stops : (k : Run) (text : List ℕ) (i : ℕ) → goes_on k (drop i text) ≡ false → i + run_length k (drop i text) ≡ i
 run_stops k text i h = omega (arith, stops k (drop i text) h)
 
+-- the same, by the first byte alone
+pub byte_goes : (k : Run) (text : List ℕ) (i : ℕ) → i < length text → belongs k (get_or text i 0) (drop (i + 1) text) ≡ true → i + run_length k (drop i text) ≡ i + 1 + run_length k (drop (i + 1) text)
+byte_goes k text i lt h = run_goes k text i lt (subst (λ (t : List ℕ). goes_on k t ≡ true) (sym (drop_more text i 0 lt)) h)
+
+pub byte_stops : (k : Run) (text : List ℕ) (i : ℕ) → i < length text → belongs k (get_or text i 0) (drop (i + 1) text) ≡ false → i + run_length k (drop i text) ≡ i
+byte_stops k text i lt h = run_stops k text i (subst (λ (t : List ℕ). goes_on k t ≡ false) (sym (drop_more text i 0 lt)) h)
+
 pub run_at_end : (k : Run) (text : List ℕ) (i : ℕ) → length text ≤ i → i + run_length k (drop i text) ≡ i
 unfolding run_length
 run_at_end k text i le = rw (drop_all i text le) (omega arith)
@@ -40,7 +47,7 @@ part_is_ascii run.Line b rest some h = absurd (some refl)
 abbrev nothing : List ℕ
 nothing = []
 
-more_ascii : (b : ℕ) (rest : List ℕ) → b < 128 → IsAscii rest → IsAscii (b ∷ rest)
+pub more_ascii : (b : ℕ) (rest : List ℕ) → b < 128 → IsAscii rest → IsAscii (b ∷ rest)
 more_ascii b rest lt h zero = lt
 more_ascii b rest lt h (suc i) = h i
 

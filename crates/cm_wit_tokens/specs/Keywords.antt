@@ -1,5 +1,6 @@
 -- The keywords of WIT texts (WIT.md, "Keywords").
-use Rattle.std.specs.Prelude.{ℕ, ◌==◌, List, [], ◌∷◌, Option, codes, filter, find, length}
+use Rattle.std.specs.Prelude.{ℕ, ◌==◌, ◌&&◌, Bool, List, [], ◌∷◌, Option, codes, filter, find}
+use Rattle.std.specs.Prelude.{get_or, length}
 use Rattle.std.specs.Str.{bytes_eq}
 use Rattle.cm_wit_tokens.specs.declared.keyword.Keyword.{Keyword}
 use Rattle.cm_wit_tokens.specs.declared.keyword.Keyword.TheVariants as word
@@ -57,9 +58,13 @@ keywords =
     word.S32 ∷ word.S64 ∷ word.U8 ∷ word.U16 ∷ word.U32 ∷ word.U64 ∷ word.F32 ∷ word.F64 ∷
     word.Char ∷ word.String ∷ word.Stream ∷ word.Future ∷ word.Async ∷ word.From ∷ []
 
--- those with so many letters
-abbrev pub keywords_of_length : ℕ → List Keyword
-keywords_of_length n = filter (λ k. length (spelling k) == n) keywords
+-- whether a keyword has so many letters, and begins with this one
+abbrev pub begins : ℕ → ℕ → Keyword → Bool
+begins n b k = (length (spelling k) == n) && (get_or (spelling k) 0 0 == b)
+
+-- those with so many letters that begin with this one
+abbrev pub keywords_that_begin : ℕ → ℕ → List Keyword
+keywords_that_begin n b = filter (begins n b) keywords
 
 -- the keyword that a word is, if it is one
 unfoldable pub keyword_of : List ℕ → Option Keyword

@@ -1,7 +1,7 @@
 -- The tokens of WIT texts (WIT.md, "Lexical structure").
 use Rattle.std.specs.Prelude.{ℕ, zero, suc, ◌+◌, ◌-◌, ◌*◌, ◌^◌, ◌<◌, ◌≤◌, ◌==◌, ◌||◌}
 use Rattle.std.specs.Prelude.{Bool, true, false, if◌then◌else◌, nat_lt, List, [], ◌∷◌, length}
-use Rattle.std.specs.Prelude.{drop, Option, Some, None}
+use Rattle.std.specs.Prelude.{drop, Option, Some, None, IsCharBoundary}
 use Rattle.std.specs.Option.{option_map, option_map_or}
 use Rattle.std.specs.Char.{is_ascii_alphabetic, is_ascii_digit}
 use Rattle.cm_types.specs.Names.{is_label}
@@ -129,6 +129,13 @@ IsWithin front_is.End text = Unit {0}
 IsWithin front_is.Bad text = Unit {0}
 IsWithin (front_is.Gap n) text = (0 < n) × (n ≤ length text)
 IsWithin (front_is.Token f n) text = (0 < n) × (n ≤ length text)
+
+-- what stands at the front of a text ends where one of its characters does
+abbrev pub EndsAtChar : Front → List ℕ → Type 0
+EndsAtChar front_is.End text = Unit {0}
+EndsAtChar front_is.Bad text = Unit {0}
+EndsAtChar (front_is.Gap n) text = IsCharBoundary text n
+EndsAtChar (front_is.Token f n) text = IsCharBoundary text n
 
 -- ---- the tokens of a text
 

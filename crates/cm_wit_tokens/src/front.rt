@@ -1,12 +1,13 @@
 //! What stands at the front of a WIT text: a blank, a comment or a token.
 
-ghost use Rattle.std.specs.Prelude.{◌≡◌, true, false, IfOk, length};
+ghost use Rattle.std.specs.Prelude.{◌≡◌, true, false, drop, IfOk, IsTrue, IsCharBoundary};
+ghost use Rattle.cm_wit_tokens.specs.declared.front.Front.TheVariants as front_is;
 ghost use Rattle.cm_types.specs.Names.{is_label};
 ghost use Rattle.cm_wit_tokens.specs.Tokens.{token_front, word_form, identifier_form, version_form};
 ghost use Rattle.cm_wit_tokens.specs.Tokens.{from_digits, integer_of, comment_front, front};
 ghost use Rattle.cm_wit_tokens.specs.Tokens.{version_front, front_behind, IsWithin, operator_front};
 ghost use Rattle.cm_wit_tokens.specs.Tokens.{integer_front, word_front, escaped_front, slash_front};
-ghost use Rattle.cm_wit_tokens.specs.Tokens.{hyphen_front};
+ghost use Rattle.cm_wit_tokens.specs.Tokens.{hyphen_front, EndsAtChar};
 
 use crate::Version;
 use crate::comment::comment_length;
@@ -105,7 +106,7 @@ fn operator_front(byte: u8) -> Front
     token_front(Operator::of_byte(byte).map(Form::Operator), 1)
 }
 
-fn integer_front(text: &[u8]) -> Front
+fn integer_front(text: &str) -> Front
     ensures { result ≡ integer_front text.now }
 {
     let digits = Run::Digits.text(text);
@@ -115,7 +116,7 @@ fn integer_front(text: &[u8]) -> Front
     )
 }
 
-fn word_front(alloc: Global, text: &[u8]) -> Result<Front, AllocError>
+fn word_front(alloc: Global, text: &str) -> Result<Front, AllocError>
     ensures { IfOk result (λ f. f ≡ word_front text.now) }
 {
     let word = Run::Word.text(text);
@@ -123,14 +124,14 @@ fn word_front(alloc: Global, text: &[u8]) -> Result<Front, AllocError>
 }
 
 /// What a text begins with behind a `%`.
-fn escaped_front(alloc: Global, rest: &[u8]) -> Result<Front, AllocError>
+fn escaped_front(alloc: Global, rest: &str) -> Result<Front, AllocError>
     ensures { IfOk result (λ f. f ≡ escaped_front rest.now) }
 {
     let word = Run::Word.text(rest);
     Ok(token_front(identifier_form(alloc, word)?, 1 + word.len()))
 }
 
-fn version_front(alloc: Global, text: &[u8]) -> Result<Front, AllocError>
+fn version_front(alloc: Global, text: &str) -> Result<Front, AllocError>
     ensures { IfOk result (λ f. f ≡ version_front text.now) }
 {
     if text.is_empty() {
@@ -161,28 +162,55 @@ fn hyphen_front(rest: &[u8]) -> Front
     }
 }
 
-fn plain_front(alloc: Global, text: &[u8]) -> Result<Front, AllocError>
+/// A text without its first byte, which is ASCII.
+fn behind_first(text: &str) -> &str
+    requires { IsCharBoundary text.now 1 }
+    ensures { result.now ≡ drop 1 text.now }
+{
+    let (_, rest) = text.split_at(1);
+    rest
+}
+
+fn plain_front(alloc: Global, text: &str) -> Result<Front, AllocError>
     ensures { IfOk result (λ f. f ≡ front text.now) }
 {
-    let [first, rest @ ..] = text else {
+    let [first, rest @ ..] = text.as_bytes() else {
         return Ok(Front::End);
     };
     match *first {
         b' ' | b'\t' | b'\r' | b'\n' => Ok(Front::Gap(1)),
         b'/' => Ok(slash_front(rest)),
         b'-' => Ok(hyphen_front(rest)),
-        b'%' => escaped_front(alloc, rest),
+        b'%' => escaped_front(alloc, behind_first(text)),
         first if first.is_ascii_alphabetic() => word_front(alloc, text),
         first if first.is_ascii_digit() => Ok(integer_front(text)),
         first => Ok(operator_front(first)),
     }
 }
 
+fn begins_with_blank(text: &[u8]) -> bool
+    ensures { IsTrue result → front text.now ≡ front_is.Gap 1 }
+{
+    matches!(text, [b' ' | b'\t' | b'\r' | b'\n', ..])
+}
+
+/// Whether a text begins with a blank, which directly behind an `@` is none.
+pub fn is_blank_next(text: &str, behind_at: bool) -> bool
+    ensures gap { IsTrue result → front_behind behind_at text.now ≡ front_is.Gap 1 }
+    ensures boundary { IsTrue result → IsCharBoundary text.now 1 }
+{
+    if behind_at {
+        return false;
+    }
+    begins_with_blank(text.as_bytes())
+}
+
 impl Front {
     /// What a text begins with, directly behind an `@` or elsewhere.
-    pub fn of_text(alloc: Global, text: &[u8], behind_at: bool) -> Result<Front, AllocError>
+    pub fn of_text(alloc: Global, text: &str, behind_at: bool) -> Result<Front, AllocError>
         ensures front { IfOk result (λ f. f ≡ front_behind behind_at text.now) }
         ensures within { IfOk result (λ f. IsWithin f text.now) }
+        ensures boundary { IfOk result (λ f. EndsAtChar f text.now) }
     {
         if behind_at {
             version_front(alloc, text)

@@ -1,7 +1,7 @@
 //! The keywords of WIT texts.
 
-ghost use Rattle.std.specs.Prelude.{◌≡◌, option_copied};
-ghost use Rattle.cm_wit_tokens.specs.Keywords.{spelling, keyword_of, keywords_of_length};
+ghost use Rattle.std.specs.Prelude.{◌≡◌, ◌≢◌, true, false, option_copied};
+ghost use Rattle.cm_wit_tokens.specs.Keywords.{spelling, keyword_of, keywords_that_begin};
 
 /// A word that is no identifier, unless `%` stands before it (WIT.md, "Keywords"). Those of forms
 /// that are not read are keywords too.
@@ -49,55 +49,42 @@ pub enum Keyword {
     From,
 }
 
-/// The keywords with so many letters, in the order in which the standard names them.
-fn of_length(length: usize) -> &'static [Keyword]
-    ensures { result.now ≡ keywords_of_length length }
+/// The keywords with so many letters that begin with a letter, in the order in which the standard
+/// names them.
+fn that_begin(length: usize, first: u8) -> &'static [Keyword]
+    ensures { result.now ≡ keywords_that_begin length first }
 {
-    match length {
-        2 => &[Keyword::As, Keyword::S8, Keyword::U8],
-        3 => &[
-            Keyword::Use,
-            Keyword::Own,
-            Keyword::S16,
-            Keyword::S32,
-            Keyword::S64,
-            Keyword::U16,
-            Keyword::U32,
-            Keyword::U64,
-            Keyword::F32,
-            Keyword::F64,
-        ],
-        4 => &[
-            Keyword::Type,
-            Keyword::Enum,
-            Keyword::Func,
-            Keyword::List,
-            Keyword::Bool,
-            Keyword::Char,
-            Keyword::From,
-        ],
-        5 => &[
-            Keyword::World,
-            Keyword::Flags,
-            Keyword::Tuple,
-            Keyword::Async,
-        ],
-        6 => &[
-            Keyword::Record,
-            Keyword::Static,
-            Keyword::Import,
-            Keyword::Export,
-            Keyword::Option,
-            Keyword::Result,
-            Keyword::Borrow,
-            Keyword::String,
-            Keyword::Stream,
-            Keyword::Future,
-        ],
-        7 => &[Keyword::Package, Keyword::Variant, Keyword::Include],
-        8 => &[Keyword::Resource],
-        9 => &[Keyword::Interface],
-        11 => &[Keyword::Constructor],
+    match (length, first) {
+        (2, b'a') => &[Keyword::As],
+        (2, b's') => &[Keyword::S8],
+        (2, b'u') => &[Keyword::U8],
+        (3, b'u') => &[Keyword::Use, Keyword::U16, Keyword::U32, Keyword::U64],
+        (3, b'o') => &[Keyword::Own],
+        (3, b's') => &[Keyword::S16, Keyword::S32, Keyword::S64],
+        (3, b'f') => &[Keyword::F32, Keyword::F64],
+        (4, b't') => &[Keyword::Type],
+        (4, b'e') => &[Keyword::Enum],
+        (4, b'f') => &[Keyword::Func, Keyword::From],
+        (4, b'l') => &[Keyword::List],
+        (4, b'b') => &[Keyword::Bool],
+        (4, b'c') => &[Keyword::Char],
+        (5, b'w') => &[Keyword::World],
+        (5, b'f') => &[Keyword::Flags],
+        (5, b't') => &[Keyword::Tuple],
+        (5, b'a') => &[Keyword::Async],
+        (6, b'r') => &[Keyword::Record, Keyword::Result],
+        (6, b's') => &[Keyword::Static, Keyword::String, Keyword::Stream],
+        (6, b'i') => &[Keyword::Import],
+        (6, b'e') => &[Keyword::Export],
+        (6, b'o') => &[Keyword::Option],
+        (6, b'b') => &[Keyword::Borrow],
+        (6, b'f') => &[Keyword::Future],
+        (7, b'p') => &[Keyword::Package],
+        (7, b'v') => &[Keyword::Variant],
+        (7, b'i') => &[Keyword::Include],
+        (8, b'r') => &[Keyword::Resource],
+        (9, b'i') => &[Keyword::Interface],
+        (11, b'c') => &[Keyword::Constructor],
         _ => &[],
     }
 }
@@ -151,12 +138,23 @@ impl Keyword {
         }
     }
 
+    /// Whether it is this keyword.
+    pub(crate) fn is(self, other: Keyword) -> bool
+        ensures same { result ≡ true → self ≡ other }
+        ensures other { result ≡ false → self ≢ other }
+    {
+        self == other
+    }
+
     /// The keyword that a word is, if it is one.
     #[tactic(auto, unfolding(crate::specs::Keywords::keyword_of))]
     pub fn of_word(word: &[u8]) -> Option<Keyword>
         ensures { result ≡ keyword_of word.now }
     {
-        of_length(word.len())
+        let [first, ..] = word else {
+            return None;
+        };
+        that_begin(word.len(), *first)
             .iter()
             .find(|keyword| keyword.as_str().as_bytes() == word)
             .copied()

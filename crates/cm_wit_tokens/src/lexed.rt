@@ -4,7 +4,7 @@ ghost use Rattle.std.specs.Prelude.{◌≡◌, IfOk};
 ghost use Rattle.cm_wit_tokens.specs.Tokens.{lexed};
 ghost use Rattle.cm_wit_tokens.specs.LexedViews.{lexed_view};
 
-use crate::front::Front;
+use crate::front::{Front, is_blank_next};
 use crate::token::Token;
 use std::alloc::{AllocError, Global};
 use std::collections::VecDeque;
@@ -21,13 +21,18 @@ pub struct Lexed {
 impl Lexed {
     #[tactic(auto, using(crate::proofs::LexedLaws::lexed_laws))]
     /// The tokens of a text, in time linear in it. Refused only where there is no memory.
-    pub fn of_text(alloc: Global, text: &[u8]) -> Result<Lexed, AllocError>
+    pub fn of_text(alloc: Global, text: &str) -> Result<Lexed, AllocError>
         ensures { IfOk result (λ tokens. lexed_view tokens ≡ lexed text.now) }
     {
         let mut tokens = VecDeque::new(alloc);
         let mut rest = text;
         let mut behind_at = false;
         loop {
+            if is_blank_next(rest, behind_at) {
+                behind_at = false;
+                (_, rest) = rest.split_at(1);
+                continue;
+            }
             match Front::of_text(alloc, rest, behind_at)? {
                 Front::End => return Ok(Lexed { tokens, stop: None }),
                 Front::Bad => {

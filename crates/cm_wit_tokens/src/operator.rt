@@ -1,6 +1,6 @@
 //! The operators of WIT texts.
 
-ghost use Rattle.std.specs.Prelude.{◌≡◌};
+ghost use Rattle.std.specs.Prelude.{◌≡◌, ◌≢◌, true, false};
 ghost use Rattle.cm_wit_tokens.specs.Operators.{operator_of, operator_spelling};
 
 /// A mark of one byte, or the arrow of two (WIT.md, "Operators and Packages delimiters").
@@ -46,6 +46,14 @@ impl Operator {
             Operator::At => "@",
             Operator::Underscore => "_",
         }
+    }
+
+    /// Whether it is this operator.
+    pub(crate) fn is(self, other: Operator) -> bool
+        ensures same { result ≡ true → self ≡ other }
+        ensures other { result ≡ false → self ≢ other }
+    {
+        self == other
     }
 
     /// The operator that one byte is, if it is one.

@@ -31,21 +31,23 @@ impl Form {
     }
 
     /// Whether the token is this operator.
+    #[tactic(auto, using(crate::proofs::SpellingLaws::spelling_laws))]
     pub fn is_operator(&self, operator: Operator) -> bool
         ensures { result ≡ is_operator operator self.now }
     {
         match self {
-            Form::Operator(found) => found.as_str() == operator.as_str(),
+            Form::Operator(found) => found.is(operator),
             _ => false,
         }
     }
 
     /// Whether the token is this keyword.
+    #[tactic(auto, using(crate::proofs::SpellingLaws::spelling_laws))]
     pub fn is_keyword(&self, keyword: Keyword) -> bool
         ensures { result ≡ is_keyword keyword self.now }
     {
         match self {
-            Form::Keyword(found) => found.as_str() == keyword.as_str(),
+            Form::Keyword(found) => found.is(keyword),
             _ => false,
         }
     }

@@ -56,7 +56,7 @@ fn read_all<T: Item>(alloc: Global, cursor: &mut Cursor) -> Result<T, ReadError>
 fn read_exactly<T: Item>(alloc: Global, text: &str) -> Result<T, WitFault>
     ensures { Answers T.tree (text_reads T.grammar text.now) result }
 {
-    let Lexed { tokens, stop } = Lexed::of_text(alloc, text.as_bytes())?;
+    let Lexed { tokens, stop } = Lexed::of_text(alloc, text)?;
     let mut cursor = Cursor::new(tokens);
     match read_all::<T>(alloc, &mut cursor) {
         Ok(value) => match stop {

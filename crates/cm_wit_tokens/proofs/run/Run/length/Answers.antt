@@ -1,6 +1,13 @@
 use Rattle.std.proofs.Common.{arith}
-use Rattle.cm_wit_tokens.proofs.RunLaws.{run_at_end}
+use Rattle.cm_wit_tokens.specs.declared.run.Run.TheVariants as run
+use Rattle.cm_wit_tokens.proofs.RunLaws.{run_within}
 use Rattle.cm_wit_tokens.proofs.run.Run.length.Goals as goal
 
-pub returns-clause-length : goal.returns-clause-length
-returns-clause-length c = omega (arith, c.loop-count.invariant, c.loop-count-test.false, c.loop-count.auto.count-end, run_at_end c.args.self c.args.text.now c.loop-count.count (omega (arith, c.loop-count-test.false)))
+pub returns-in-Word-clause-within : goal.returns-in-Word-clause-within
+returns-in-Word-clause-within c = omega (arith, c.word_length.ensures, run_within run.Word c.args.text.now)
+
+pub returns-in-Line-clause-within : goal.returns-in-Line-clause-within
+returns-in-Line-clause-within c = omega (arith, c.line_length.ensures, run_within run.Line c.args.text.now)
+
+pub returns-in-Digits-clause-within : goal.returns-in-Digits-clause-within
+returns-in-Digits-clause-within c = omega (arith, c.length_of_others.ensures, run_within c.args.self c.args.text.now)

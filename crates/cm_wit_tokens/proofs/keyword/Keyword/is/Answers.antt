@@ -1,0 +1,7 @@
+use Rattle.std.proofs.Common.{rules, sym, ◌∙◌}
+use denote.Enum.Bare.{same_true}
+use Rattle.cm_wit_tokens.specs.contracts.keyword.Keyword.{the_type}
+use Rattle.cm_wit_tokens.proofs.keyword.Keyword.is.Goals as goal
+
+pub returns-clause-same : goal.returns-clause-same
+returns-clause-same c is = same_true the_type (search rules) _ _ (sym c.eq.ensures ∙ is)
