@@ -1,21 +1,18 @@
 //! Names that are distinct.
 
 ghost use Rattle.std.specs.Prelude.{◌≡◌, IfOk, IsFalse, IsTrue, map, take};
-ghost use Rattle.std.specs.List.{Contains};
-ghost use Rattle.std.specs.Option.{option_map};
 ghost use Rattle.cm_types.specs.ExternNameForms.{form_tree};
 ghost use Rattle.cm_wit_names.specs.MentionViews.{declared_view, mention_view};
-ghost use Rattle.cm_wit_names.specs.Distinct.{Adds, Notes, key_view};
+ghost use Rattle.cm_wit_names.specs.Distinct.{Adds, Has, IsIn, Notes};
 ghost use Rattle.cm_wit_names.specs.Known.{IsAt};
-ghost use Rattle.cm_wit_names.specs.Rules.{IsAmong, IsLeast, IsTaken, is_self, key_of, own_part};
-ghost use Rattle.cm_wit_names.specs.Rules.{told_by};
+ghost use Rattle.cm_wit_names.specs.Rules.{IsLeast, IsTaken, folded, is_self, own_part, told_by};
 
-use crate::full_names::folded;
+use crate::full_names::{folded, folded_text, has_no_capital};
 use crate::names::Names;
 use crate::{ListedName, Mention};
 use cm_types::ExternNameForm;
+use cm_wit_keys::FirstKeys;
 use std::alloc::{AllocError, Global};
-use std::collections::BTreeSet;
 
 /// An interface's name without its package.
 fn own_part<'a>(name: ExternNameForm<'a>) -> ExternNameForm<'a>
@@ -47,16 +44,6 @@ fn told_by<'a>(declared: ListedName<'a>) -> ExternNameForm<'a>
     }
 }
 
-/// The list in which a mention has to be distinct, and its name there.
-fn key_of(alloc: Global, mention: &Mention<'_>) -> Result<Option<(usize, Vec<u8>)>, AllocError>
-    ensures { IfOk result (λ key. option_map key_view key ≡ key_of (mention_view mention.now)) }
-{
-    match mention.declares {
-        None => Ok(None),
-        Some(declared) => Ok(Some((declared.in_list, folded(alloc, told_by(declared))?))),
-    }
-}
-
 /// Whether a mention has the name of an implied `self`. Refused only where there is no memory.
 fn is_self(alloc: Global, mention: &Mention<'_>) -> Result<bool, AllocError>
     ensures { IfOk result (λ b. b ≡ is_self (mention_view mention.now)) }
@@ -69,35 +56,69 @@ fn is_self(alloc: Global, mention: &Mention<'_>) -> Result<bool, AllocError>
     }
 }
 
-/// Puts a name to the others of its list. Answers whether it was not there.
-#[tactic(auto, using(crate::proofs::DistinctLaws::any_in, crate::proofs::DistinctLaws::adds_key))]
-fn insert(seen: &mut BTreeSet<(usize, Vec<u8>)>, key: (usize, Vec<u8>)) -> Result<bool, AllocError>
-    ensures added { IfOk result (λ b. IsTrue b →
-        Adds (key_view key) (map key_view seen.old.keys) (map key_view seen.new.keys)) }
-    ensures present { IfOk result (λ b. IsFalse b →
-        Contains (map key_view seen.old.keys) (key_view key)) }
+/// Puts a name to the others of its list, and answers whether it was not there.
+#[tactic(auto, using(crate::proofs::DistinctLaws::insert_laws))]
+fn insert(
+    seen: &mut FirstKeys,
+    in_list: usize,
+    name: &str,
+    index: usize,
+) -> Result<bool, AllocError>
+    ensures added { IfOk result (λ b. IsTrue b → Adds (in_list, name.now) seen.old seen.new) }
+    ensures present { IfOk result (λ b. IsFalse b → Has seen.old (in_list, name.now)) }
 {
-    Ok(seen.insert(key)?)
+    let is_new = seen.note(in_list, name, index)?;
+    Ok(is_new)
 }
 
+/// Puts a full name to the others of its list, without ASCII case, and answers whether it was not
+/// there.
+fn insert_folded(
+    alloc: Global,
+    seen: &mut FirstKeys,
+    in_list: usize,
+    name: ExternNameForm<'_>,
+    index: usize,
+) -> Result<bool, AllocError>
+    ensures added { IfOk result (λ b. IsTrue b →
+        Adds (in_list, folded (form_tree name.entry)) seen.old seen.new) }
+    ensures present { IfOk result (λ b. IsFalse b →
+        Has seen.old (in_list, folded (form_tree name.entry))) }
+{
+    if let ExternNameForm::Label(text) = name {
+        if has_no_capital(text) {
+            let is_new = insert(seen, in_list, text, index)?;
+            return Ok(is_new);
+        }
+    }
+    let text = folded_text(alloc, name)?;
+    let is_new = insert(seen, in_list, text.as_str(), index)?;
+    Ok(is_new)
+}
+
+/// Puts the name of a mention, the one of this index, to the others of its list. Answers whether it
+/// was not there.
 #[tactic(auto, using(crate::proofs::DistinctLaws::distinct_note_laws))]
-/// Puts the name of a mention to the others of its list. Answers whether it was not there.
 fn note(
     alloc: Global,
-    seen: &mut BTreeSet<(usize, Vec<u8>)>,
+    seen: &mut FirstKeys,
     mention: &Mention<'_>,
+    index: usize,
 ) -> Result<bool, AllocError>
-    ensures noted { IfOk result (λ b. IsTrue b → Notes (mention_view mention.now)
-        (map key_view seen.old.keys) (map key_view seen.new.keys)) }
-    ensures taken { IfOk result (λ b. IsFalse b →
-        IsAmong (map key_view seen.old.keys) (mention_view mention.now)) }
+    ensures noted { IfOk result (λ b. IsTrue b →
+        Notes (mention_view mention.now) seen.old seen.new) }
+    ensures taken { IfOk result (λ b. IsFalse b → IsIn seen.old (mention_view mention.now)) }
 {
     if is_self(alloc, mention)? {
         return Ok(false);
     }
-    match key_of(alloc, mention)? {
+    match mention.declares {
         None => Ok(true),
-        Some(key) => insert(seen, key),
+        Some(declared) => {
+            let name = told_by(declared);
+            let is_new = insert_folded(alloc, seen, declared.in_list, name, index)?;
+            Ok(is_new)
+        }
     }
 }
 
@@ -108,9 +129,9 @@ impl Names<'_> {
         ensures { IfOk result (IsLeast (λ n. IsAt (map mention_view self.now.mentions.items) n
             (IsTaken (take n (map mention_view self.now.mentions.items))))) }
     {
-        let mut seen = BTreeSet::new(alloc);
+        let mut seen = FirstKeys::new(alloc);
         for (index, mention) in self.mentions.iter().enumerate() {
-            if !note(alloc, &mut seen, mention)? {
+            if !note(alloc, &mut seen, mention, index)? {
                 return Ok(Some(index));
             }
         }

@@ -7,14 +7,14 @@ ghost use Rattle.cm_wit_names.specs.Table.{IsTableOf};
 
 use crate::known::known_names;
 use crate::{Mention, Reference};
-use cm_names::{KeyTable, look_up};
+use cm_wit_keys::FirstKeys;
 use std::alloc::{AllocError, Global};
 
 /// What each name of a file says, and what is known by which name.
 #[derive(Drop)]
 pub struct Names<'a> {
     pub mentions: Vec<Mention<'a>>,
-    known: KeyTable<'a>,
+    known: FirstKeys,
     ghost table: { IsTableOf (map mention_view mentions.items) known },
 }
 
@@ -31,7 +31,7 @@ impl<'a> Names<'a> {
     pub fn known_at(&self, number: usize, name: &str) -> Option<usize>
         ensures { result ≡ known_at (map mention_view self.now.mentions.items) number name.now }
     {
-        look_up(&self.known, number, name)
+        self.known.find(number, name)
     }
 
     /// The mention to which a reference leads, if there is one.
