@@ -1,5 +1,5 @@
 -- What one more key does to a table of first keys.
-use Rattle.std.proofs.Common.{◌≡◌, ◌==◌, ◌&&◌, ◌||◌, ℕ, ◌+◌, ◌<◌, ◌≤◌, Bool, true, false, cond, if◌then◌else◌, List, [], ◌∷◌, ◌++◌, length, slice_get, Option, Some, None, IfSome, is_some, Result, Ok, Err, refl, sym, ap, subst, ◌∙◌, inl, inr, arith}
+use Rattle.std.proofs.Common.{◌≡◌, ◌==◌, ◌&&◌, ◌||◌, ℕ, ◌+◌, ◌<◌, ◌≤◌, Bool, true, false, cond, if◌then◌else◌, not, List, [], ◌∷◌, ◌++◌, length, slice_get, Option, Some, None, IfSome, is_some, Result, Ok, Err, refl, sym, ap, subst, ◌∙◌, inl, inr, arith}
 use Rattle.std.specs.BTreeMap.{IsUnchanged, Updates, get, is_at}
 use Rattle.std.specs.Cmp.{tied_then}
 use Rattle.std.specs.List.{list_any, position_from}
@@ -17,7 +17,8 @@ use Rattle.cm_names.specs.TextNumbers.{number_in}
 use Rattle.cm_names.proofs.KeyLaws.{or_none}
 use Rattle.cm_names.proofs.NumberLaws.{numbered, one_text, number_stays, number_added, distinct_more, has_number}
 use Rattle.cm_wit_keys.specs.Pairs.{pair_cmp}
-use Rattle.cm_wit_keys.specs.FirstKeys.{Others, first_under, place_in, found_in}
+use Rattle.cm_wit_keys.specs.FirstKeys.{first_under, place_in, found_in}
+use Rattle.cm_wit_keys.specs.Others.{NotesOther, Others}
 use Rattle.cm_lemmas.proofs.Bools.{both_true, true_not_false}
 use Rattle.cm_lemmas.proofs.Lists.{absent, any_there, get_left, get_last, same_text, text_same}
 use Rattle.cm_lemmas.proofs.Numbers.{eq_of, eq_true}
@@ -68,11 +69,9 @@ none_stays (y ∷ ts) t x i e k = elim (cases_Bool (bytes_eq t y)) [
 
 -- ---- one more key
 
-placed : (a b w : Option ℕ) (place : ℕ) (key : Bool) → w ≡ cond key (Some place) b → (key ≡ true → or_else a b ≡ None) → or_else a w ≡ or_else (or_else a b) (cond key (Some place) None)
-placed None None w place true e h = e
-placed None (Some x) w place true e h = none_some x (sym (h refl))
-placed (Some x) b w place true e h = none_some x (sym (h refl))
-placed a b w place false e h = ap (or_else a) e ∙ sym (or_none (or_else a b))
+or_else_turned : (a b w : Option ℕ) → or_else a (or_else b w) ≡ or_else (or_else a b) w
+or_else_turned None b w = refl
+or_else_turned (Some x) b w = refl
 
 and_turned : (a b : Bool) → (a && b) ≡ (b && a)
 and_turned true true = refl
@@ -107,9 +106,16 @@ module _ (texts : List (List ℕ)) (firsts : List (ℕ × ℕ)) (n : ℕ) (name 
     ]
   ]
 
-  -- a key whose name is there, under another number
-  pub noted_known : (old new : Others) (i : ℕ) → number_in texts name ≡ Some i → place_in firsts old n i ≡ None → ((q : ℕ × ℕ) → get pair_cmp new q ≡ cond (is_at (pair_cmp (i, n)) q) (Some place) (get pair_cmp old q)) → (m : ℕ) (t : List ℕ) → found_in texts firsts new m t ≡ or_else (found_in texts firsts old m t) (cond (is_this m t) (Some place) None)
-  noted_known old new i is none up m t = by (number_in texts t) refl
+  -- the key of an index is that of its name
+  same_key : (i j m : ℕ) (t : List ℕ) → number_in texts name ≡ Some i → number_in texts t ≡ Some j → is_at (pair_cmp (i, n)) (j, m) ≡ is_this m t
+  same_key i j m t is e =
+      same_pair (i, n) (j, m)
+      ∙ (ap (λ b. b && (n == m)) (same_index i j t is e)
+      ∙ (ap (λ b. bytes_eq t name && b) (number_turned n m) ∙ and_turned (bytes_eq t name) (m == n)))
+
+  -- a key whose name is there, and which the others get
+  pub noted_known : (old new : Others) (i : ℕ) → number_in texts name ≡ Some i → NotesOther (i, n) place old new → (m : ℕ) (t : List ℕ) → found_in texts firsts new m t ≡ or_else (found_in texts firsts old m t) (cond (is_this m t) (Some place) None)
+  noted_known old new i is up m t = by (number_in texts t) refl
     where
       by : (o : Option ℕ) → number_in texts t ≡ o → option_and_then (place_in firsts new m) o ≡ or_else (option_and_then (place_in firsts old m) o) (cond (is_this m t) (Some place) None)
       by None e = elim (cases_Bool (bytes_eq t name)) [
@@ -117,16 +123,8 @@ module _ (texts : List (List ℕ)) (firsts : List (ℕ × ℕ)) (n : ℕ) (name 
         | inr k ↦ other_key None m t k
       ]
       by (Some j) e =
-          let test : is_at (pair_cmp (i, n)) (j, m) ≡ is_this m t =
-          same_pair (i, n) (j, m)
-          ∙ (ap (λ b. b && (n == m)) (same_index i j t is e)
-          ∙ (ap (λ b. bytes_eq t name && b) (number_turned n m) ∙ and_turned (bytes_eq t name) (m == n))) in
-          placed (first_under m (slice_get firsts j)) (get pair_cmp old (j, m)) (get pair_cmp new (j, m)) place (is_this m t)
-          (up (j, m) ∙ ap (λ b. cond b (Some place) (get pair_cmp old (j, m))) test)
-          (λ key.
-          let both = both_true (m == n) (bytes_eq t name) key in
-          let ij = eq_of i j (same_index i j t is e ∙ both.1) in
-          subst (λ k. place_in firsts old m k ≡ None) ij (subst (λ k. place_in firsts old k i ≡ None) (sym (eq_of m n both.0)) none))
+          ap (or_else (first_under m (slice_get firsts j))) (up j m ∙ ap (λ b. or_else (get pair_cmp old (j, m)) (cond b (Some place) None)) (same_key i j m t is e))
+          ∙ or_else_turned (first_under m (slice_get firsts j)) (get pair_cmp old (j, m)) (cond (is_this m t) (Some place) None)
 
   -- a key whose name is not there
   pub noted_new : (others : Others) → number_in texts name ≡ None → AreDistinct texts → length firsts ≡ length texts → ((i k : ℕ) → length firsts ≤ i → get pair_cmp others (i, k) ≡ None) → (m : ℕ) (t : List ℕ) → found_in (texts ++ name ∷ []) (firsts ++ (n, place) ∷ []) others m t ≡ or_else (found_in texts firsts others m t) (cond (is_this m t) (Some place) None)
@@ -159,13 +157,38 @@ module _ (texts : List (List ℕ)) (firsts : List (ℕ × ℕ)) (n : ℕ) (name 
 pub distinct_still : (old new : List (List ℕ)) (name : List ℕ) → number_in old name ≡ None → AreDistinct old → new ≡ old ++ name ∷ [] → AreDistinct new
 distinct_still old new name none d e = subst AreDistinct (sym e) (distinct_more old name (is_absent old name 0 none) d)
 
+-- a key that was put where none stood
+pub put_law : (b : Bool) (old new : Others) (i n place : ℕ) → b ≡ not (is_some (get pair_cmp old (i, n))) → (b ≡ true → Updates pair_cmp old new (i, n) (Some place)) → (b ≡ false → IsUnchanged old new) → NotesOther (i, n) place old new
+put_law b old new i n place is put kept j m = elim (cases_Bool (is_at (pair_cmp (i, n)) (j, m))) [
+  | inl y ↦
+      let both = both_true (i == j) (n == m) (sym (same_pair (i, n) (j, m)) ∙ y) in
+      let same : get pair_cmp old (j, m) ≡ get pair_cmp old (i, n) = sym (ap (λ k. get pair_cmp old (k, n)) (eq_of i j both.0) ∙ ap (λ k. get pair_cmp old (j, k)) (eq_of n m both.1)) in
+      here b (get pair_cmp old (j, m)) (is ∙ ap (λ o. not (is_some o)) (sym same))
+      (λ t. (put t).0 (j, m) ∙ ap (λ c. cond c (Some place) (get pair_cmp old (j, m))) y)
+      (λ f. ap (λ es. lookup (is_at (pair_cmp (j, m))) es) (kept f))
+      ∙ ap (λ c. or_else (get pair_cmp old (j, m)) (cond c (Some place) None)) (sym y)
+  | inr k ↦
+      away b
+      (λ t. (put t).0 (j, m) ∙ ap (λ c. cond c (Some place) (get pair_cmp old (j, m))) k)
+      (λ f. ap (λ es. lookup (is_at (pair_cmp (j, m))) es) (kept f))
+      ∙ sym (ap (λ c. or_else (get pair_cmp old (j, m)) (cond c (Some place) None)) k ∙ or_none (get pair_cmp old (j, m)))
+]
+  where
+    here : {w : Option ℕ} (b : Bool) (o : Option ℕ) → b ≡ not (is_some o) → (b ≡ true → w ≡ Some place) → (b ≡ false → w ≡ o) → w ≡ or_else o (Some place)
+    here b None e t f = t e
+    here b (Some x) e t f = f e
+
+    away : {w o : Option ℕ} (b : Bool) → (b ≡ true → w ≡ o) → (b ≡ false → w ≡ o) → w ≡ o
+    away true t f = t refl
+    away false t f = f refl
+
 -- a place under the index of a name leaves those beyond the names without one
-pub of_names_still : (size i n p : ℕ) (old new : Others) → i < size → ((k m : ℕ) → size ≤ k → get pair_cmp old (k, m) ≡ None) → ((q : ℕ × ℕ) → get pair_cmp new q ≡ cond (is_at (pair_cmp (i, n)) q) (Some p) (get pair_cmp old q)) → (k m : ℕ) → size ≤ k → get pair_cmp new (k, m) ≡ None
+pub of_names_still : (size i n p : ℕ) (old new : Others) → i < size → ((k m : ℕ) → size ≤ k → get pair_cmp old (k, m) ≡ None) → NotesOther (i, n) p old new → (k m : ℕ) → size ≤ k → get pair_cmp new (k, m) ≡ None
 of_names_still size i n p old new lt none up k m le =
     let differ : (i == k) ≡ false = neq_false i k (λ e. omega (arith, e, lt, le)) in
-    up (k, m)
-    ∙ (ap (λ b. cond b (Some p) (get pair_cmp old (k, m))) (same_pair (i, n) (k, m) ∙ ap (λ b. b && (n == m)) differ)
-    ∙ none k m le)
+    up k m
+    ∙ (ap (λ b. or_else (get pair_cmp old (k, m)) (cond b (Some p) None)) (same_pair (i, n) (k, m) ∙ ap (λ b. b && (n == m)) differ)
+    ∙ (or_none (get pair_cmp old (k, m)) ∙ none k m le))
   where
     neq_false : (a b : ℕ) → (a ≡ b → ⊥) → (a == b) ≡ false
     neq_false a b f = elim (cases_Bool (a == b)) [
@@ -173,6 +196,6 @@ of_names_still size i n p old new lt none up k m le =
       | inr q ↦ q
     ]
 
-pub of_names_after : {T E : Type 0} (r : Result T E) (size i n p : ℕ) (old new : Others) → i < size → ((k m : ℕ) → size ≤ k → get pair_cmp old (k, m) ≡ None) → OnOk r (Updates pair_cmp old new (i, n) (Some p)) → OnErr r (IsUnchanged old new) → (k m : ℕ) → size ≤ k → get pair_cmp new (k, m) ≡ None
-of_names_after (Ok x) size i n p old new lt none put same k m le = of_names_still size i n p old new lt none put.0 k m le
+pub of_names_after : {E : Type 0} (r : Result Bool E) (size i n p : ℕ) (old new : Others) → i < size → ((k m : ℕ) → size ≤ k → get pair_cmp old (k, m) ≡ None) → OnOk r (NotesOther (i, n) p old new) → OnErr r (IsUnchanged old new) → (k m : ℕ) → size ≤ k → get pair_cmp new (k, m) ≡ None
+of_names_after (Ok x) size i n p old new lt none put same k m le = of_names_still size i n p old new lt none put k m le
 of_names_after (Err e) size i n p old new lt none put same k m le = ap (λ es. lookup (is_at (pair_cmp (k, m))) es) same ∙ none k m le

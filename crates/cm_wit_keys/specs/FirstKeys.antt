@@ -1,17 +1,15 @@
 -- Tables of the first of keys.
 use Rattle.std.specs.Prelude.{◌≡◌, ℕ, ◌==◌, List, Option, Some, None, slice_get}
 use Rattle.std.specs.Prelude.{if◌then◌else◌}
-use Rattle.std.specs.BTreeMap.{BTreeMap, get}
+use Rattle.std.specs.BTreeMap.{get}
 use Rattle.std.specs.Option.{option_and_then}
 use Rattle.cm_names.specs.Keys.{Key, is_key}
 use Rattle.cm_names.specs.KeyTables.{or_else}
 use Rattle.cm_names.specs.TextNumbers.{number_in}
 use Rattle.cm_names.specs.TextTables.{texts_of}
+use Rattle.cm_wit_keys.specs.Others.{Others}
 use Rattle.cm_wit_keys.specs.Pairs.{pair_cmp}
 use Rattle.cm_wit_keys.specs.declared.first_keys.FirstKeys.{FirstKeys}
-
-abbrev pub Others : Type 0
-Others = BTreeMap (ℕ × ℕ) ℕ
 
 -- the place of the first key of a name, if that has this number
 abbrev pub first_under : ℕ → Option (ℕ × ℕ) → Option ℕ

@@ -6,6 +6,7 @@ ghost use Rattle.cm_names.specs.Distinct.{AreDistinct};
 ghost use Rattle.cm_names.specs.TextTables.{texts_of};
 ghost use Rattle.cm_wit_keys.specs.Pairs.{pair_cmp};
 
+use crate::others::put_new;
 use cm_names::TextTable;
 use std::alloc::{AllocError, Global};
 use std::collections::BTreeMap;
@@ -31,9 +32,9 @@ pub struct FirstKeys {
 }
 
 impl FirstKeys {
-    ghost use Rattle.std.specs.Prelude.{IfOk, List, OnOk, is_some, not};
+    ghost use Rattle.std.specs.Prelude.{IfOk, List, OnOk, is_some, not, slice_get};
     ghost use Rattle.cm_names.specs.TextNumbers.{number_in};
-    ghost use Rattle.cm_wit_keys.specs.FirstKeys.{Notes, look_up, place_at};
+    ghost use Rattle.cm_wit_keys.specs.FirstKeys.{Notes, first_under, look_up, place_at};
 
     /// No keys.
     pub fn new(alloc: Global) -> FirstKeys
@@ -85,6 +86,15 @@ impl FirstKeys {
         Ok(())
     }
 
+    /// Whether the first key of the name of an index has this number.
+    fn is_first(&self, number: usize, index: usize) -> bool
+        ensures { result ≡ is_some (first_under number (slice_get self.now.firsts.items index)) }
+    {
+        self.firsts
+            .get(index)
+            .is_some_and(|first| first.0 == number)
+    }
+
     /// Puts the place of a key, a number and a name, unless one stands for it. Answers whether none
     /// did. `AllocError` comes where there is no memory, and the table is to be dropped then.
     pub fn note(&mut self, number: usize, name: &str, place: usize) -> Result<bool, AllocError>
@@ -95,10 +105,10 @@ impl FirstKeys {
             self.add(number, name, place)?;
             return Ok(true);
         };
-        if self.place_at(number, index).is_some() {
+        if self.is_first(number, index) {
             return Ok(false);
         }
-        self.others.insert((index, number), place)?;
-        Ok(true)
+        let is_new = put_new(&mut self.others, index, number, place)?;
+        Ok(is_new)
     }
 }

@@ -4,5 +4,6 @@
 #![tactic(auto)]
 
 mod first_keys;
+mod others;
 
 pub use first_keys::FirstKeys;

@@ -1,10 +1,8 @@
-use Rattle.std.proofs.Common.{rules, ◌≡◌, ◌<◌, length, None, Some, sym, arith}
+use Rattle.std.proofs.Common.{◌≡◌, ◌<◌, length, Some, sym, arith}
 use Rattle.std.proofs.lemmas.Option.{slice_get_within}
-use Rattle.cm_lemmas.proofs.Options.{is_none}
 use Rattle.cm_names.proofs.NumberLaws.{numbered}
 use Rattle.cm_names.specs.TextNumbers.{number_in}
 use Rattle.cm_names.specs.TextTables.{texts_of}
-use Rattle.cm_wit_keys.specs.FirstKeys.{place_at}
 use Rattle.cm_wit_keys.proofs.FirstLaws.{noted_known, of_names_after}
 use Rattle.cm_wit_keys.proofs.first_keys.FirstKeys.note.Goals as goal
 
@@ -18,12 +16,10 @@ invariant_of-self c =
     record {
       distinct = s.distinct;
       as_many = s.as_many;
-      of_names = of_names_after c.insert.result (length s.firsts.items) i c.args.number c.args.place s.others c.insert.new.self lt s.of_names c.insert.ensures.updates c.insert.ensures.err;
+      of_names = of_names_after c.put_new.result (length s.firsts.items) i c.args.number c.args.place s.others c.put_new.new.others lt s.of_names c.put_new.ensures.noted c.put_new.ensures.err;
     }
 
 pub returns-clause-noted : goal.returns-clause-noted
 returns-clause-noted c =
     let s = c.args.self.now in
-    let i = c.in-Some.index in
-    let none : place_at s c.args.number i ≡ None = is_none (place_at s c.args.number i) (search rules) in
-    noted_known (texts_of s.names) s.firsts.items c.args.number c.args.name.now c.args.place s.others c.insert.new.self i (sym c.in-Some.ensures) none c.in_ok-insert.ensures.updates.0
+    noted_known (texts_of s.names) s.firsts.items c.args.number c.args.name.now c.args.place s.others c.put_new.new.others c.in-Some.index (sym c.in-Some.ensures) c.in_ok-is_new.ensures.noted
