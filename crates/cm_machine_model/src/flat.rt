@@ -106,12 +106,30 @@ impl Flat {
     }
 }
 
+/// So many values are put one by one, for which a copy of a whole slice is a detour.
+const FEW: usize = 4;
+
 /// Puts the values of a slice of at most `MAX_FLAT_PARAMS` in place of all that were there.
 fn put_values(values: &mut ArrayVec<CoreValue, MAX_FLAT_PARAMS>, slice: &[CoreValue])
     requires { length slice.now ≤ MAX_FLAT_PARAMS }
     ensures { values.new.items ≡ slice.now }
 {
     values.clear();
+    if slice.len() <= FEW {
+        return put_few(values, slice);
+    }
+    match values.try_extend_from_slice(slice) {
+        Ok(()) => {}
+        Err(_) => unreachable!(),
+    }
+}
+
+/// Puts the values of a slice of at most `FEW`, where there are none.
+fn put_few(values: &mut ArrayVec<CoreValue, MAX_FLAT_PARAMS>, slice: &[CoreValue])
+    requires none { values.old.items ≡ [] }
+    requires few { length slice.now ≤ FEW }
+    ensures { values.new.items ≡ slice.now }
+{
     for value in slice {
         values.push(*value);
     }
