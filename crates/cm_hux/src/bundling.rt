@@ -2,11 +2,12 @@
 
 use crate::objects::{tell_arguments, tell_open, tell_plan, tell_written};
 use cm_hux_play::files::{
-    Checked, Ending, Fault, Files, Linked, LoadedFiles, Streams, load_files, made, open_imports,
-    read_bundle, read_bytes, tell_bytes, write_arguments, write_file, write_plan, write_whole,
+    Bundle, Checked, Ending, Fault, Files, Linked, LoadedFiles, Streams, load_files, made,
+    open_imports, read_bundle, read_bytes, tell_bytes, write_arguments, write_file, write_plan,
+    write_whole,
 };
 use cm_hux_play::{component_names, write_graph};
-use cm_hux_words::{BundleChoices, Habits};
+use cm_hux_words::{Habits, LinkWords, PlugWords};
 use cm_tool_script::read_u32;
 use std::alloc::Global;
 use std::io::Write;
@@ -15,99 +16,138 @@ use std::io::Write;
 /// Before it prints it writes them as one file, where one is named.
 pub(crate) fn run_link<'a, F: Files, S: Streams, O: Write>(
     alloc: Global,
-    names: &[&'a str],
-    choices: BundleChoices<'a>,
-    mermaid: bool,
+    words: &LinkWords<'a>,
     habits: Habits,
     files: &mut F,
     streams: &mut S,
     out: &mut O,
 ) -> Result<Ending, Fault<'a>> {
-    let export = export_of(alloc, choices)?;
-    let (loaded, unread) = load_files(alloc, files, names);
+    let export = export_of(alloc, words.export)?;
+    let (loaded, unread) = load_files(alloc, files, &words.files);
     let linked = loaded.link(alloc, unread)?;
-    if let Some(name) = choices.out {
-        let bytes = write_bundle(alloc, &loaded, &linked, export, name, streams)?;
-        tell_of_file(alloc, name, bytes, habits, out)?;
-    }
-    if mermaid {
-        let names = component_names(alloc, &loaded)?;
-        tell_of_graph(alloc, names.as_slice(), &linked, habits, out)?;
+    let set = LinkedFiles {
+        alloc,
+        loaded: &loaded,
+        linked: &linked,
+        habits,
+    };
+    set.write(words.out, export, streams, out)?;
+    if words.mermaid {
+        set.tell_graph(out)?;
     } else {
-        tell_of_links(alloc, &linked, habits, out)?;
+        set.tell_links(out)?;
     }
     Ok(Ending::Done)
 }
 
-/// The same, with a line before for each import that no component before exports.
+/// Links the components of files as `run_link` does, with a line before for each import that no
+/// component before exports.
 pub(crate) fn run_plug<'a, F: Files, S: Streams, O: Write>(
     alloc: Global,
-    names: &[&'a str],
-    choices: BundleChoices<'a>,
+    words: &PlugWords<'a>,
     habits: Habits,
     files: &mut F,
     streams: &mut S,
     out: &mut O,
 ) -> Result<Ending, Fault<'a>> {
-    let (loaded, unread) = load_files(alloc, files, names);
+    let (loaded, unread) = load_files(alloc, files, &words.files);
+    let linked = link_with_open(alloc, &loaded, unread, habits, out)?;
+    let set = LinkedFiles {
+        alloc,
+        loaded: &loaded,
+        linked: &linked,
+        habits,
+    };
+    set.write(words.out, None, streams, out)?;
+    set.tell_links(out)?;
+    Ok(Ending::Done)
+}
+
+/// The linked set of the components of files, of which it prints the open imports before.
+fn link_with_open<'a, 'b, O: Write>(
+    alloc: Global,
+    loaded: &'b LoadedFiles<'a>,
+    unread: Option<Fault<'a>>,
+    habits: Habits,
+    out: &mut O,
+) -> Result<Linked<'b>, Fault<'a>> {
     let components = loaded.check(alloc, unread)?;
     if habits.json {
         tell_open(alloc, &components, out)?;
     } else {
         write_open(alloc, &components, out)?;
     }
-    let linked = loaded.link_checked(alloc, components)?;
-    if let Some(name) = choices.out {
-        let bytes = write_bundle(alloc, &loaded, &linked, None, name, streams)?;
-        tell_of_file(alloc, name, bytes, habits, out)?;
+    loaded.link_checked(alloc, components)
+}
+
+/// Files, and what they link to.
+#[derive(Clone, Copy)]
+struct LinkedFiles<'l, 'b, 'a> {
+    alloc: Global,
+    loaded: &'l LoadedFiles<'a>,
+    linked: &'l Linked<'b>,
+    habits: Habits,
+}
+
+impl<'a> LinkedFiles<'_, '_, 'a> {
+    /// Writes the set as one file, where one is named, with the exports of this component, or of
+    /// the last.
+    fn write<S: Streams, O: Write>(
+        &self,
+        name: Option<&'a str>,
+        export: Option<usize>,
+        streams: &mut S,
+        out: &mut O,
+    ) -> Result<(), Fault<'a>> {
+        let Some(name) = name else {
+            return Ok(());
+        };
+        let last = self.linked.components().len().saturating_sub(1);
+        let bytes = self.bundle(export.unwrap_or(last))?;
+        write_file(self.alloc, streams, name, &bytes)?;
+        tell_of_file(self.alloc, name, bytes.len(), self.habits, out)
     }
-    tell_of_links(alloc, &linked, habits, out)?;
-    Ok(Ending::Done)
+
+    /// The set as one file, with the exports of this component.
+    fn bundle(&self, export: usize) -> Result<Vec<u8>, Fault<'static>> {
+        let files = self.loaded.bytes(self.alloc)?;
+        Ok(made(self.alloc, self.linked, &files, export)?)
+    }
+
+    /// Prints a graph of the links.
+    fn tell_graph<O: Write>(&self, out: &mut O) -> Result<(), Fault<'static>> {
+        let names = component_names(self.alloc, self.loaded)?;
+        if !self.habits.json {
+            write_graph(out, &names, self.linked)?;
+            return Ok(());
+        }
+        let mut graph = Vec::new(self.alloc);
+        write_graph(&mut graph, &names, self.linked)?;
+        tell_bytes(self.alloc, "mermaid", &graph, out)
+    }
+
+    /// Prints which export serves each import.
+    fn tell_links<O: Write>(&self, out: &mut O) -> Result<(), Fault<'static>> {
+        if self.habits.json {
+            return tell_plan(self.alloc, self.linked, out);
+        }
+        write_plan(out, self.linked)?;
+        Ok(())
+    }
 }
 
 /// The number of the component whose exports a bundle has, if the words say it.
-fn export_of(alloc: Global, choices: BundleChoices<'_>) -> Result<Option<usize>, Fault<'static>> {
-    match choices.export {
-        None => Ok(None),
-        Some(word) => match read_u32(word) {
-            Some(number) => Ok(Some(number as usize)),
-            None => Err(Fault::Usage(format!(in alloc; "error: --export {word}: no number")?)),
-        },
+fn export_of(alloc: Global, word: Option<&str>) -> Result<Option<usize>, Fault<'static>> {
+    let Some(word) = word else {
+        return Ok(None);
+    };
+    match read_u32(word) {
+        Some(number) => Ok(Some(number as usize)),
+        None => Err(Fault::Usage(format!(in alloc; "error: --export {word}: no number")?)),
     }
 }
 
-/// Prints a graph of the links.
-fn tell_of_graph<O: Write>(
-    alloc: Global,
-    names: &[&str],
-    linked: &Linked<'_>,
-    habits: Habits,
-    out: &mut O,
-) -> Result<(), Fault<'static>> {
-    if !habits.json {
-        write_graph(out, names, linked)?;
-        return Ok(());
-    }
-    let mut graph = Vec::new(alloc);
-    write_graph(&mut graph, names, linked)?;
-    tell_bytes(alloc, "mermaid", graph.as_slice(), out)
-}
-
-/// Prints which export serves each import.
-fn tell_of_links<O: Write>(
-    alloc: Global,
-    linked: &Linked<'_>,
-    habits: Habits,
-    out: &mut O,
-) -> Result<(), Fault<'static>> {
-    if habits.json {
-        return tell_plan(alloc, linked, out);
-    }
-    write_plan(out, linked)?;
-    Ok(())
-}
-
-/// Tells that a file of so many bytes was written, if objects are told.
+/// Prints that a file of so many bytes was written, where objects are wanted.
 fn tell_of_file<O: Write>(
     alloc: Global,
     name: &str,
@@ -119,23 +159,6 @@ fn tell_of_file<O: Write>(
         tell_written(alloc, name, bytes, out)?;
     }
     Ok(())
-}
-
-/// Writes a set as one file, with the exports of this component, or of the last. Answers how many
-/// bytes it has.
-fn write_bundle<'a, S: Streams>(
-    alloc: Global,
-    loaded: &LoadedFiles<'_>,
-    linked: &Linked<'_>,
-    export: Option<usize>,
-    name: &'a str,
-    streams: &mut S,
-) -> Result<usize, Fault<'a>> {
-    let last = linked.components().len().saturating_sub(1);
-    let files = loaded.bytes(alloc)?;
-    let bytes = made(alloc, linked, &files, export.unwrap_or(last))?;
-    write_file(alloc, streams, name, &bytes)?;
-    Ok(bytes.len())
 }
 
 fn write_open<O: Write>(
@@ -162,6 +185,24 @@ pub(crate) fn run_unbundle<'a, F: Files, S: Streams, O: Write>(
 ) -> Result<Ending, Fault<'a>> {
     let bytes = read_bytes(alloc, files, name)?;
     let bundle = read_bundle(alloc, name, &bytes)?;
+    write_parts(alloc, &bundle, folder, habits, streams, out)?;
+    if habits.json {
+        tell_arguments(alloc, &bundle, out)?;
+    } else {
+        write_arguments(out, &bundle)?;
+    }
+    Ok(Ending::Done)
+}
+
+/// Writes each part of a bundle into a folder, by its number.
+fn write_parts<'a, S: Streams, O: Write>(
+    alloc: Global,
+    bundle: &Bundle<'_>,
+    folder: &'a str,
+    habits: Habits,
+    streams: &mut S,
+    out: &mut O,
+) -> Result<(), Fault<'a>> {
     if streams.create_folder(folder).is_err() {
         return Err(Fault::Unwritten { name: folder });
     }
@@ -172,10 +213,5 @@ pub(crate) fn run_unbundle<'a, F: Files, S: Streams, O: Write>(
         }
         tell_of_file(alloc, path.as_str(), part.file.len(), habits, out)?;
     }
-    if habits.json {
-        tell_arguments(alloc, &bundle, out)?;
-    } else {
-        write_arguments(out, &bundle)?;
-    }
-    Ok(Ending::Done)
+    Ok(())
 }

@@ -1,8 +1,8 @@
 //! The commands.
 
 use crate::bundling::{run_link, run_plug, run_unbundle};
-use crate::conforming::conform;
-use crate::differing::{Compared, run_diff};
+use crate::conforming::{conform, signature_of};
+use crate::differing::run_diff;
 use crate::explaining::run_explain;
 use crate::objects::{checked_object, tell_fit};
 use crate::stubbing::run_stub;
@@ -10,13 +10,14 @@ use cm_hux_call::run_call;
 use cm_hux_core::{core_objects, core_text};
 use cm_hux_live::run_live;
 use cm_hux_play::files::{
-    Asked, Ending, Escaped, Fault, Files, Streams, ToolFault, load_file, report, signature, tell,
+    Asked, Ending, Escaped, Fault, Files, Loaded, Streams, ToolFault, load_file, report, tell,
     tell_bytes, tell_fault,
 };
 use cm_hux_play::run_play;
 use cm_hux_show::{ShowFault, show_world};
 use cm_hux_signatures::signature_objects;
-use cm_hux_words::{Answer, Habits, Request, WordsFault};
+use cm_hux_words::{Answer, ConformWords, Habits, Request, WordsFault};
+use cm_types_signatures::Signature;
 use cm_validate_functions::Functions;
 use std::alloc::Global;
 use std::io;
@@ -39,12 +40,12 @@ pub fn run_hux<F: Files, S: Streams, O: Write, E: Write>(
     err: &mut E,
 ) -> Ending {
     let answer = Answer::read(alloc, words);
-    let is_told = tells_objects(&answer, words);
-    match run_answer(alloc, answer, is_told, files, streams, out, err) {
+    let objects = wants_objects(&answer, words);
+    match run_answer(alloc, answer, objects, files, streams, out, err) {
         Ok(ending) => ending,
         Err(fault) => {
             report(err, &fault);
-            if is_told {
+            if objects {
                 // Where that fails too, the line on standard error stands.
                 let _ = tell_fault(alloc, &fault, out);
             }
@@ -53,10 +54,10 @@ pub fn run_hux<F: Files, S: Streams, O: Write, E: Write>(
     }
 }
 
-/// Whether faults are told as objects too: the lines of `live` have a form of their own.
-fn tells_objects(answer: &Result<Answer<'_>, WordsFault>, words: &[String]) -> bool {
+/// Whether faults are printed as objects too: the lines of `live` have a form of their own.
+fn wants_objects(answer: &Result<Answer<'_>, WordsFault>, words: &[String]) -> bool {
     match answer {
-        Ok(Answer::Run(Request::Live { .. }, _)) => false,
+        Ok(Answer::Run(Request::Live(_), _)) => false,
         Ok(Answer::Run(_, habits)) => habits.json,
         _ => words.iter().any(|word| word.as_str() == "--json"),
     }
@@ -65,30 +66,40 @@ fn tells_objects(answer: &Result<Answer<'_>, WordsFault>, words: &[String]) -> b
 fn run_answer<'a, F: Files, S: Streams, O: Write, E: Write>(
     alloc: Global,
     answer: Result<Answer<'a>, WordsFault>,
-    is_told: bool,
+    objects: bool,
     files: &mut F,
     streams: &mut S,
     out: &mut O,
     err: &mut E,
 ) -> Result<Ending, Fault<'a>> {
     match answer {
-        Ok(Answer::Run(request, habits)) => run(alloc, request, habits, files, streams, out, err),
-        Ok(Answer::Text(text)) if is_told => {
-            tell_bytes(alloc, "text", text.as_bytes(), out)?;
-            Ok(Ending::Done)
-        }
-        Ok(Answer::Text(text)) => print(out, text.as_str()),
+        Ok(Answer::Run(request, habits)) => run(alloc, &request, habits, files, streams, out, err),
+        Ok(Answer::Text(text)) => print_text(alloc, text.as_str(), objects, out),
         Err(WordsFault::NoCommand(text)) => Err(Fault::Usage(text)),
         Err(WordsFault::Memory) => Err(Fault::Memory),
     }
 }
 
-/// Runs a command. With nothing to be said but what is wrong, what it prints is dropped, but for
+/// Prints help or the version, as an object where objects are wanted.
+fn print_text<'a, O: Write>(
+    alloc: Global,
+    text: &str,
+    objects: bool,
+    out: &mut O,
+) -> Result<Ending, Fault<'a>> {
+    if !objects {
+        return print(out, text);
+    }
+    tell_bytes(alloc, "text", text.as_bytes(), out)?;
+    Ok(Ending::Done)
+}
+
+/// Runs a command. Where only what is wrong is wanted, what the command prints is dropped, but for
 /// the files that `check` refuses, the traps of `play`, what `live` answers, and what `diff` finds
 /// broken.
 fn run<'a, F: Files, S: Streams, O: Write, E: Write>(
     alloc: Global,
-    request: Request<'a>,
+    request: &Request<'a>,
     habits: Habits,
     files: &mut F,
     streams: &mut S,
@@ -97,17 +108,17 @@ fn run<'a, F: Files, S: Streams, O: Write, E: Write>(
 ) -> Result<Ending, Fault<'a>> {
     let prints = matches!(
         request,
-        Request::Check { .. } | Request::Play { .. } | Request::Live { .. } | Request::Diff { .. }
+        Request::Check { .. } | Request::Play(_) | Request::Live(_) | Request::Diff(_)
     );
     if habits.quiet && !prints {
-        return run_told(alloc, request, habits, files, streams, &mut io::sink(), err);
+        return run_command(alloc, request, habits, files, streams, &mut io::sink(), err);
     }
-    run_told(alloc, request, habits, files, streams, out, err)
+    run_command(alloc, request, habits, files, streams, out, err)
 }
 
-fn run_told<'a, F: Files, S: Streams, O: Write, E: Write>(
+fn run_command<'a, F: Files, S: Streams, O: Write, E: Write>(
     alloc: Global,
-    request: Request<'a>,
+    request: &Request<'a>,
     habits: Habits,
     files: &mut F,
     streams: &mut S,
@@ -115,84 +126,21 @@ fn run_told<'a, F: Files, S: Streams, O: Write, E: Write>(
     err: &mut E,
 ) -> Result<Ending, Fault<'a>> {
     match request {
-        Request::Check { files: names } => run_check(alloc, names.as_slice(), habits, files, out),
+        Request::Check { files: names } => run_check(alloc, names, habits, files, out),
         Request::Show { file } => run_show(alloc, file, habits, files, out),
         Request::Core { file } => run_core(alloc, file, habits, files, out),
-        Request::Conform { wit, world, file } => {
-            run_conform(alloc, Asked { wit, world, file }, habits, files, out)
-        }
-        Request::Link {
-            files: names,
-            bundle,
-            mermaid,
-        } => run_link(
-            alloc,
-            names.as_slice(),
-            bundle,
-            mermaid,
-            habits,
-            files,
-            streams,
-            out,
-        ),
+        Request::Conform(asked) => run_conform(alloc, *asked, habits, files, out),
+        Request::Link(link) => run_link(alloc, link, habits, files, streams, out),
         Request::Unbundle { file, folder } => {
             run_unbundle(alloc, file, folder, habits, files, streams, out)
         }
-        Request::Plug {
-            files: names,
-            bundle,
-        } => run_plug(alloc, names.as_slice(), bundle, habits, files, streams, out),
-        Request::Play {
-            script,
-            files: names,
-            choices,
-        } => run_play(
-            alloc,
-            script,
-            names.as_slice(),
-            choices,
-            habits,
-            files,
-            out,
-            err,
-        ),
-        Request::Call {
-            script,
-            files: names,
-            call,
-        } => run_call(
-            alloc,
-            script,
-            names.as_slice(),
-            call,
-            habits.json,
-            files,
-            out,
-            err,
-        ),
-        Request::Live {
-            files: names,
-            choices,
-        } => run_live(alloc, names.as_slice(), choices, files, streams, out, err),
-        Request::Explain { words } => run_explain(alloc, words.as_slice(), habits, out),
-        Request::Diff { old, new, worlds } => {
-            let worlds = worlds.as_slice();
-            run_diff(alloc, Compared { old, new, worlds }, habits, files, out)
-        }
-        Request::Stub {
-            files: names,
-            caller,
-            out: name,
-        } => run_stub(
-            alloc,
-            names.as_slice(),
-            caller,
-            name,
-            habits,
-            files,
-            streams,
-            out,
-        ),
+        Request::Plug(plug) => run_plug(alloc, plug, habits, files, streams, out),
+        Request::Play(play) => run_play(alloc, play, habits, files, out, err),
+        Request::Call(call) => run_call(alloc, call, habits.json, files, out, err),
+        Request::Live(live) => run_live(alloc, live, files, streams, out, err),
+        Request::Explain { words } => run_explain(alloc, words, habits, out),
+        Request::Diff(diff) => run_diff(alloc, diff, habits, files, out),
+        Request::Stub(stub) => run_stub(alloc, stub, habits, files, streams, out),
     }
 }
 
@@ -257,11 +205,13 @@ fn write_checked<O: Write>(
 /// Says that the component of a file fits a world.
 fn run_conform<'a, F: Files, O: Write>(
     alloc: Global,
-    asked: Asked<'a>,
+    words: ConformWords<'a>,
     habits: Habits,
     files: &mut F,
     out: &mut O,
 ) -> Result<Ending, Fault<'a>> {
+    let ConformWords { wit, world, file } = words;
+    let asked = Asked { wit, world, file };
     conform(alloc, asked, files)?;
     if !habits.json {
         return print(out, "ok\n");
@@ -278,14 +228,23 @@ fn run_show<'a, F: Files, O: Write>(
     files: &mut F,
     out: &mut O,
 ) -> Result<Ending, Fault<'a>> {
-    let loaded = load_file(alloc, files, name)?;
-    let checked = loaded.check(alloc)?;
-    let signature = signature(alloc, checked)?;
+    let signature = signature_of(alloc, &load_file(alloc, files, name)?)?;
     let text = shown(name, show_world(alloc, &signature))?;
     if !habits.json {
         return print(out, text.as_str());
     }
-    let lines = shown(name, signature_objects(alloc, &signature))?;
+    tell_shown(alloc, name, &signature, text.as_str(), out)
+}
+
+/// Prints a signature as objects, before them the text that shows it.
+fn tell_shown<'a, O: Write>(
+    alloc: Global,
+    name: &'a str,
+    signature: &Signature,
+    text: &str,
+    out: &mut O,
+) -> Result<Ending, Fault<'a>> {
+    let lines = shown(name, signature_objects(alloc, signature))?;
     tell_bytes(alloc, "wit", text.as_bytes(), out)?;
     print(out, lines.as_str())
 }
@@ -299,6 +258,12 @@ fn run_core<'a, F: Files, O: Write>(
     out: &mut O,
 ) -> Result<Ending, Fault<'a>> {
     let loaded = load_file(alloc, files, name)?;
+    let text = core_lines(alloc, &loaded, habits)?;
+    print(out, text.as_str())
+}
+
+/// A line, or an object, for each core function of a file.
+fn core_lines<'a>(alloc: Global, loaded: &Loaded<'a>, habits: Habits) -> Result<String, Fault<'a>> {
     let checked = loaded.check(alloc)?;
     let functions = Functions::of(alloc, &checked)?;
     let text = if habits.json {
@@ -306,7 +271,7 @@ fn run_core<'a, F: Files, O: Write>(
     } else {
         core_text(alloc, &functions)
     };
-    print(out, shown(name, text)?.as_str())
+    shown(loaded.name, text)
 }
 
 /// A text of a file, or why it is not shown.

@@ -1,11 +1,19 @@
 //! Whether the component of a file fits a world of the text of another.
 
 use cm_hux_play::files::{
-    Asked, Fault, Files, Loaded, ToolFault, Unfit, UnfitReason, conform_component, conform_help,
-    kept, load_file, of_file, read_file, signature, text_of, wit_help, world_help, world_of,
+    Asked, Checked, Fault, Files, Loaded, ToolFault, Unfit, UnfitReason, conform_component,
+    conform_help, kept, load_file, of_file, read_bytes, signature, text_of, wit_help, world_help,
+    world_of,
 };
+use cm_types_signatures::Signature;
 use cm_wit_conforms::ConformFault;
 use std::alloc::Global;
+
+/// What the component of a file imports and exports.
+pub(crate) fn signature_of<'a>(alloc: Global, loaded: &Loaded<'a>) -> Result<Signature, Fault<'a>> {
+    let checked = loaded.check(alloc)?;
+    Ok(signature(alloc, checked)?)
+}
 
 /// Refuses a component that does not fit the world.
 pub(crate) fn conform<'a, F: Files>(
@@ -15,17 +23,25 @@ pub(crate) fn conform<'a, F: Files>(
 ) -> Result<(), Fault<'a>> {
     let loaded = load_file(alloc, files, asked.file)?;
     let checked = loaded.check(alloc)?;
-    let bytes = match read_file(alloc, files, asked.wit) {
-        Ok(bytes) => bytes,
-        Err(bad) => return Err(of_file(bad, String::new(alloc))),
-    };
-    let text = match text_of(asked.wit, bytes.as_slice()) {
+    let bytes = read_bytes(alloc, files, asked.wit)?;
+    conform_to(alloc, asked, &loaded, checked, &bytes)
+}
+
+/// Refuses a component that does not fit the world of a text with these bytes.
+fn conform_to<'a>(
+    alloc: Global,
+    asked: Asked<'a>,
+    loaded: &Loaded<'_>,
+    checked: Checked<'_>,
+    bytes: &[u8],
+) -> Result<(), Fault<'a>> {
+    let text = match text_of(asked.wit, bytes) {
         Ok(text) => text,
         Err(bad) => return Err(of_file(bad, String::new(alloc))),
     };
     match conform_component(alloc, text, asked.world, checked) {
         Ok(()) => Ok(()),
-        Err(reason) => Err(unfit(alloc, text, asked, &loaded, reason)),
+        Err(reason) => Err(unfit(alloc, text, asked, loaded, reason)),
     }
 }
 
@@ -62,11 +78,11 @@ fn signature_tail(
     loaded: &Loaded<'_>,
     fault: ConformFault,
 ) -> String {
-    let (Ok(world), Ok(checked)) = (world_of(alloc, text, asked.world), loaded.check(alloc)) else {
+    let (Ok(world), Ok(have)) = (
+        world_of(alloc, text, asked.world),
+        signature_of(alloc, loaded),
+    ) else {
         return String::new(alloc);
     };
-    match signature(alloc, checked) {
-        Ok(have) => kept(alloc, conform_help(alloc, &have, &world, fault)),
-        Err(_) => String::new(alloc),
-    }
+    kept(alloc, conform_help(alloc, &have, &world, fault))
 }

@@ -1,11 +1,12 @@
 //! What a component or a world lacks or has changed for those that use another.
 
+use crate::conforming::signature_of;
 use cm_hux_diff::{Change, Difference, differences};
 use cm_hux_play::files::{
     Ending, Escaped, Fault, Files, Object, ToolFault, Unfit, UnfitReason, conform_help, kept,
-    load_bytes, of_file, read_bytes, signature, tell, text_of, wit_help, world_help, world_of,
+    load_bytes, of_file, read_bytes, tell, text_of, wit_help, world_help, world_of,
 };
-use cm_hux_words::Habits;
+use cm_hux_words::{DiffWords, Habits};
 use cm_tool_show::show;
 use cm_types_signatures::Signature;
 use cm_wit_conforms::{ConformReason, conforms};
@@ -15,14 +16,6 @@ use std::io::Write;
 /// What a WebAssembly file begins with; others are texts.
 const MAGIC: &[u8] = b"\0asm";
 
-/// The files that are compared, and the worlds that were named.
-#[derive(Clone, Copy)]
-pub(crate) struct Compared<'a, 'w> {
-    pub(crate) old: &'a str,
-    pub(crate) new: &'a str,
-    pub(crate) worlds: &'w [&'a str],
-}
-
 /// The name of a file, and the bytes that it has.
 #[derive(Drop)]
 struct Read<'a> {
@@ -31,6 +24,11 @@ struct Read<'a> {
 }
 
 impl<'a> Read<'a> {
+    fn of<F: Files>(alloc: Global, files: &mut F, name: &'a str) -> Result<Read<'a>, Fault<'a>> {
+        let bytes = read_bytes(alloc, files, name)?;
+        Ok(Read { name, bytes })
+    }
+
     fn is_text(&self) -> bool {
         !self.bytes.starts_with(MAGIC)
     }
@@ -45,8 +43,7 @@ impl<'a> Read<'a> {
 
     fn component(&self, alloc: Global) -> Result<Signature, Fault<'a>> {
         let loaded = load_bytes(alloc, self.name, self.bytes.to_vec(alloc)?)?;
-        let checked = loaded.check(alloc)?;
-        Ok(signature(alloc, checked)?)
+        signature_of(alloc, &loaded)
     }
 
     fn world(&self, alloc: Global, world: &'a str) -> Result<Signature, Fault<'a>> {
@@ -86,37 +83,58 @@ impl<'a> Read<'a> {
 /// Prints what differs, a line each, and `ok` where it breaks nothing for who uses the old one.
 pub(crate) fn run_diff<'a, F: Files, O: Write>(
     alloc: Global,
-    compared: Compared<'a, '_>,
+    words: &DiffWords<'a>,
     habits: Habits,
     files: &mut F,
     out: &mut O,
 ) -> Result<Ending, Fault<'a>> {
-    let Compared { old, new, worlds } = compared;
-    let old = Read {
-        name: old,
-        bytes: read_bytes(alloc, files, old)?,
-    };
-    let new = Read {
-        name: new,
-        bytes: read_bytes(alloc, files, new)?,
-    };
-    let (of_old, of_new) = worlds_of(alloc, &old, &new, worlds)?;
-    let before = old.signature(alloc, of_old)?;
-    let after = new.signature(alloc, of_new)?;
-    let was = shown(alloc, old.name, &before)?;
-    let is = shown(alloc, new.name, &after)?;
-    let found = differences(alloc, &was, &is)?;
+    let both = Both::read(alloc, words, files)?;
     let telling = Telling { alloc, habits };
-    let mut is_broken = telling.tell_differences(&found, out)?;
-    if !is_broken && !found.iter().any(|it| it.is_renamed()) {
-        is_broken = telling.tell_unfit(&before, &after, out)?;
-    }
+    let is_broken = telling.tell_both(&both, out)?;
     telling.tell_end(is_broken, out)?;
     Ok(if is_broken {
         Ending::Refused
     } else {
         Ending::Done
     })
+}
+
+/// What two files import and export.
+#[derive(Drop)]
+struct Both<'a> {
+    old_name: &'a str,
+    new_name: &'a str,
+    old: Signature,
+    new: Signature,
+}
+
+impl<'a> Both<'a> {
+    fn read<F: Files>(
+        alloc: Global,
+        words: &DiffWords<'a>,
+        files: &mut F,
+    ) -> Result<Both<'a>, Fault<'a>> {
+        let old = Read::of(alloc, files, words.old)?;
+        let new = Read::of(alloc, files, words.new)?;
+        Both::of(alloc, &old, &new, &words.worlds)
+    }
+
+    fn of(
+        alloc: Global,
+        old: &Read<'a>,
+        new: &Read<'a>,
+        worlds: &[&'a str],
+    ) -> Result<Both<'a>, Fault<'a>> {
+        let (of_old, of_new) = worlds_of(alloc, old, new, worlds)?;
+        let before = old.signature(alloc, of_old)?;
+        let after = new.signature(alloc, of_new)?;
+        Ok(Both {
+            old_name: old.name,
+            new_name: new.name,
+            old: before,
+            new: after,
+        })
+    }
 }
 
 /// The worlds of the two files: those that are texts have one each, in order, or both the only one
@@ -160,7 +178,7 @@ fn shown<'a>(alloc: Global, name: &'a str, of: &Signature) -> Result<String, Fau
     }
 }
 
-/// How differences are told.
+/// How differences are printed.
 #[derive(Clone, Copy)]
 struct Telling {
     alloc: Global,
@@ -168,7 +186,31 @@ struct Telling {
 }
 
 impl Telling {
-    /// Tells each difference, or only what is broken, and answers whether something is.
+    /// Prints what differs between the two, and answers whether something is broken.
+    fn tell_both<'a, O: Write>(self, both: &Both<'a>, out: &mut O) -> Result<bool, Fault<'a>> {
+        let old = shown(self.alloc, both.old_name, &both.old)?;
+        let new = shown(self.alloc, both.new_name, &both.new)?;
+        self.tell_texts(both, &old, &new, out)
+    }
+
+    /// Prints what differs between the texts that show the two. Where no text differs, the types
+    /// are compared too.
+    fn tell_texts<'a, O: Write>(
+        self,
+        both: &Both<'a>,
+        old: &str,
+        new: &str,
+        out: &mut O,
+    ) -> Result<bool, Fault<'a>> {
+        let found = differences(self.alloc, old, new)?;
+        let is_broken = self.tell_differences(&found, out)?;
+        if is_broken || found.iter().any(|it| it.is_renamed()) {
+            return Ok(is_broken);
+        }
+        Ok(self.tell_unfit(&both.old, &both.new, out)?)
+    }
+
+    /// Prints each difference, or only what is broken, and answers whether something is.
     fn tell_differences<O: Write>(
         self,
         found: &[Difference<'_>],
@@ -196,8 +238,8 @@ impl Telling {
         Ok(())
     }
 
-    /// Whether the new signature does not conform to the old one, where no difference says so: that
-    /// is told then. Interfaces of other versions are not looked at so.
+    /// Whether the new signature does not conform to the old one, where no difference says so: it
+    /// prints that then. Interfaces of other versions are not looked at so.
     fn tell_unfit<O: Write>(
         self,
         old: &Signature,
@@ -219,7 +261,7 @@ impl Telling {
         Ok(true)
     }
 
-    /// Tells whether nothing is broken.
+    /// Prints `ok` where nothing is broken.
     fn tell_end<O: Write>(self, is_broken: bool, out: &mut O) -> Result<(), Fault<'static>> {
         if self.habits.json {
             tell(Object::new(self.alloc).with("ok", !is_broken)?, out)?;

@@ -6,7 +6,7 @@ use cm_hux_words::Habits;
 use std::alloc::{AllocError, Global};
 use std::io::Write;
 
-/// Prints what is said of each trap, misuse and reason that the words name. Words that name nothing
+/// Prints the meaning of each trap, misuse and reason that the words name. Words that name nothing
 /// are no command.
 pub(crate) fn run_explain<'a, O: Write>(
     alloc: Global,

@@ -6,7 +6,7 @@ use cm_binary_model::Component;
 use cm_hux_play::files::{
     Ending, Fault, Files, Streams, StubFault, caller_for, load_files, provider_for, write_file,
 };
-use cm_hux_words::Habits;
+use cm_hux_words::{Habits, StubWords};
 use std::alloc::Global;
 use std::io::Write;
 
@@ -14,26 +14,33 @@ use std::io::Write;
 /// the last exports.
 pub(crate) fn run_stub<'a, F: Files, S: Streams, O: Write>(
     alloc: Global,
-    names: &[&'a str],
-    caller: bool,
-    name: &'a str,
+    words: &StubWords<'a>,
     habits: Habits,
     files: &mut F,
     streams: &mut S,
     out: &mut O,
 ) -> Result<Ending, Fault<'a>> {
-    let (loaded, unread) = load_files(alloc, files, names);
+    let bytes = stub_bytes(alloc, words, files)?;
+    write_file(alloc, streams, words.out, &bytes)?;
+    if habits.json {
+        tell_written(alloc, words.out, bytes.len(), out)?;
+    }
+    Ok(Ending::Done)
+}
+
+/// The bytes of the component.
+fn stub_bytes<'a, F: Files>(
+    alloc: Global,
+    words: &StubWords<'a>,
+    files: &mut F,
+) -> Result<Vec<u8>, Fault<'a>> {
+    let (loaded, unread) = load_files(alloc, files, &words.files);
     if let Some(fault) = unread {
         return Err(fault);
     }
     let components = loaded.into_components(alloc)?;
-    let stub = stub(alloc, &components, caller)?;
-    let bytes = encode(alloc, &stub)?;
-    write_file(alloc, streams, name, &bytes)?;
-    if habits.json {
-        tell_written(alloc, name, bytes.len(), out)?;
-    }
-    Ok(Ending::Done)
+    let stub = stub(alloc, &components, words.caller)?;
+    Ok(encode(alloc, &stub)?)
 }
 
 fn stub(

@@ -9,6 +9,7 @@ use crate::resumed::Resumed;
 use crate::scripts::script_of;
 use cm_hux_drive::HuxScript;
 use cm_hux_drive::files::{Ending, Fault, Files, Set, load_files};
+use cm_hux_words::CallWords;
 use cm_types::Func;
 use std::alloc::Global;
 use std::io::Write;
@@ -21,23 +22,21 @@ use std::io::Write;
 /// is one for the files alone; without it each guest stops at once.
 pub fn run_call<'a, F: Files, O: Write, E: Write>(
     alloc: Global,
-    script: Option<&'a str>,
-    names: &[&'a str],
-    call: &'a str,
+    words: &CallWords<'a>,
     json: bool,
     files: &mut F,
     out: &mut O,
     err: &mut E,
 ) -> Result<Ending, Fault<'a>> {
-    let call = CallText::read(alloc, call)?;
-    let (loaded, unread) = load_files(alloc, files, names);
+    let call = CallText::read(alloc, words.call)?;
+    let (loaded, unread) = load_files(alloc, files, &words.files);
     let stub = caller_of(alloc, &loaded, unread)?;
     let linked = link_behind(alloc, &loaded, &stub)?;
     let Some((seat, components)) = linked.components().split_last() else {
         return Err(Fault::Memory);
     };
     let called = Called::of(alloc, &call, seat)?;
-    let script = script_of(alloc, script, components, files)?;
+    let script = script_of(alloc, words.script, components, files)?;
     let mut set = set_with_caller(alloc, &linked, &script.script.pages)?;
     let call = Call {
         alloc,

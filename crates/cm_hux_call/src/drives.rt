@@ -127,7 +127,7 @@ fn play_on<W: Watcher, E: Write>(
     finish(watching, Ending::Done, true)
 }
 
-/// Ends the play: what was not looked at is told.
+/// Ends the play, and prints which checks were not made.
 fn finish<W: Watcher, E: Write>(
     watching: &mut Watching<'_, W, E>,
     ending: Ending,

@@ -1,6 +1,6 @@
 //! What is passed in a call of a caller that stands in for a host.
 
-use cm_host_values::{HostTypes, ValuesFault, lift_values, lower_values};
+use cm_host_values::{HostTypes, Lowered, ValuesFault, lift_values, lower_values};
 use cm_hux_drive::Seat;
 use cm_machine_guests::{Bump, MoveQueue, Room, WithAllocator};
 use cm_machine_model::{Flat, MAX_MEMORY_SIZE, Move, PAGE_SIZE};
@@ -57,6 +57,53 @@ const ALL_ROOM: Bump = Bump {
     end: MAX_MEMORY_SIZE as u32,
 };
 
+impl Passed {
+    /// The guest that calls a core function, which lowers a function of this type, with these
+    /// arguments, in a memory that has no pages yet.
+    pub(crate) fn new(
+        alloc: Global,
+        core_func: u32,
+        func: &Func,
+        args: &[Value],
+    ) -> Result<Passed, PassFault> {
+        let mut regions = ALL_ROOM;
+        let lowered = lower_params(alloc, func, args, &mut regions)?;
+        let results = Results::of(alloc, func, &mut regions)?;
+        let guest = guest_of(alloc, core_func, lowered, results.place, regions)?;
+        Ok(Passed { guest, results })
+    }
+}
+
+/// The arguments of a function of this type, as its caller passes them.
+fn lower_params(
+    alloc: Global,
+    func: &Func,
+    args: &[Value],
+    regions: &mut Bump,
+) -> Result<Lowered, PassFault> {
+    let params = HostTypes::of_params(alloc, func)?;
+    match lower_values(alloc, &params, args, regions) {
+        Ok(lowered) => Ok(lowered),
+        Err(fault) => Err(PassFault::Values(fault)),
+    }
+}
+
+/// The guest that calls a core function with what was lowered, and with the place of the results.
+fn guest_of(
+    alloc: Global,
+    core_func: u32,
+    lowered: Lowered,
+    place: Option<u32>,
+    regions: Bump,
+) -> Result<Seat, AllocError> {
+    let Lowered { mut slots, bytes } = lowered;
+    if let Some(at) = place {
+        slots.push(CoreValue::I32(at))?;
+    }
+    let queue = queue_of(alloc, core_func, slots, bytes, regions.next)?;
+    Ok(Seat::Allocating(WithAllocator::new(alloc, regions, queue)))
+}
+
 /// A place for the results, where they are passed in memory.
 fn results_place(
     alloc: Global,
@@ -73,40 +120,14 @@ fn results_place(
     }
 }
 
-impl Passed {
-    /// The guest that calls a core function, which lowers a function of this type, with these
-    /// arguments, in a memory that has no pages yet.
-    pub(crate) fn new(
-        alloc: Global,
-        core_func: u32,
-        func: &Func,
-        args: &[Value],
-    ) -> Result<Passed, PassFault> {
-        let params = HostTypes::of_params(alloc, func)?;
-        let results = HostTypes::of_result(alloc, func)?;
-        let mut regions = ALL_ROOM;
-        let lowered = match lower_values(alloc, &params, args, &mut regions) {
-            Ok(lowered) => lowered,
-            Err(fault) => return Err(PassFault::Values(fault)),
-        };
-        let place = results_place(alloc, &results, &mut regions)?;
-        let mut slots = lowered.slots;
-        if let Some(at) = place {
-            slots.push(CoreValue::I32(at))?;
-        }
-        let queue = queue_of(alloc, core_func, slots, lowered.bytes, regions.next)?;
-        let guest = Seat::Allocating(WithAllocator::new(alloc, regions, queue));
-        Ok(Passed {
-            guest,
-            results: Results {
-                types: results,
-                place,
-            },
-        })
-    }
-}
-
 impl Results {
+    /// The results of a function of this type, with a place for them.
+    fn of(alloc: Global, func: &Func, regions: &mut Bump) -> Result<Results, PassFault> {
+        let types = HostTypes::of_result(alloc, func)?;
+        let place = results_place(alloc, &types, regions)?;
+        Ok(Results { types, place })
+    }
+
     /// What a function of this type answered, where this is the memory of the caller, which went on
     /// with these core values.
     pub(crate) fn answered(

@@ -7,7 +7,7 @@ use cm_hux_told::files::{
     make_set,
 };
 use cm_hux_told::{SaidLines, component_names};
-use cm_hux_words::LiveChoices;
+use cm_hux_words::LiveWords;
 use cm_live::{Record, Served, Session, serve};
 use cm_live_plan::{pages_of, write_component};
 use cm_tool_lines::SetSize;
@@ -17,28 +17,26 @@ use std::io;
 use std::io::{BufRead, Write};
 
 /// Links the components of files, prints what an engine needs to instantiate their core modules,
-/// and plays them line by line. Calls and their values are told on standard error, where that is
-/// chosen.
+/// and plays them line by line. Calls and their values are written to standard error, where the
+/// words want it.
 pub fn run_live<'a, F: Files, S: Streams, O: Write, E: Write>(
     alloc: Global,
-    names: &[&'a str],
-    choices: LiveChoices<'a>,
+    words: &LiveWords<'a>,
     files: &mut F,
     streams: &mut S,
     out: &mut O,
     err: &mut E,
 ) -> Result<Ending, Fault<'a>> {
-    let limit = limit_of(alloc, choices)?;
-    let (loaded, unread) = load_files(alloc, files, names);
+    let limit = limit_of(alloc, words.limit)?;
+    let (loaded, unread) = load_files(alloc, files, &words.files);
     let linked = loaded.link(alloc, unread)?;
-    let pages = pages(alloc, choices, &linked)?;
     let live = Live {
         alloc,
         loaded: &loaded,
         linked: &linked,
         limit,
     };
-    live.run(choices, pages, streams, out, err)
+    live.run(words, streams, out, err)
 }
 
 /// A linked set that is played line by line.
@@ -52,25 +50,37 @@ struct Live<'l, 'b, 'a> {
 }
 
 impl<'b, 'a> Live<'_, 'b, 'a> {
-    /// Prints what an engine needs, and plays the set, whose memories begin with these pages.
     fn run<S: Streams, O: Write, E: Write>(
         &self,
-        choices: LiveChoices<'a>,
+        words: &LiveWords<'a>,
+        streams: &mut S,
+        out: &mut O,
+        err: &mut E,
+    ) -> Result<Ending, Fault<'a>> {
+        let pages = pages(self.alloc, words.pages, self.linked)?;
+        let mut session = session(self.alloc, self.linked, &pages)?;
+        self.play(words, &mut session, pages, streams, out, err)
+    }
+
+    /// Prints what an engine needs, and plays the session, whose memories begin with these pages.
+    fn play<S: Streams, O: Write, E: Write>(
+        &self,
+        words: &LiveWords<'a>,
+        session: &mut Session<'_, '_>,
         pages: Vec<u32>,
         streams: &mut S,
         out: &mut O,
         err: &mut E,
     ) -> Result<Ending, Fault<'a>> {
-        let mut session = session(self.alloc, self.linked, &pages)?;
-        let overheard = overheard(self.alloc, choices, self.linked, &pages)?;
+        let overheard = overheard(self.alloc, words.values, self.linked, &pages)?;
         self.write_plan(out)?;
-        let mut record = record(self.alloc, choices, pages, streams)?;
+        let mut record = record(self.alloc, words.record, pages, streams)?;
         let Ok(reader) = streams.reader(self.alloc) else {
             return Err(Fault::Streams);
         };
         let served = match overheard {
-            None => self.serve(&mut session, reader, &mut record, out),
-            Some(set) => self.overhear(set, &mut session, reader, &mut record, out, err),
+            None => self.serve(session, reader, &mut record, out),
+            Some(set) => self.overhear(set, session, reader, &mut record, out, err),
         };
         ending_of(served, self.limit)
     }
@@ -92,7 +102,7 @@ impl<'b, 'a> Live<'_, 'b, 'a> {
         serve(self.alloc, session, &mut reader, out, record, self.limit)
     }
 
-    /// Plays the lines on the session, and on a set beside it, which tells what passes.
+    /// Plays the lines on the session, and on a set beside it, whose calls and values are written.
     fn overhear<R: BufRead + Drop, K: Write, O: Write, E: Write>(
         &self,
         set: Set,
@@ -120,11 +130,11 @@ impl<'b, 'a> Live<'_, 'b, 'a> {
 /// The record of a session whose memories begin with these pages, where one is chosen.
 fn record<'a, S: Streams>(
     alloc: Global,
-    choices: LiveChoices<'a>,
+    name: Option<&'a str>,
     pages: Vec<u32>,
     streams: &mut S,
 ) -> Result<Option<Record<S::Writer>>, Fault<'a>> {
-    match choices.record {
+    match name {
         Some(name) => Ok(Some(Record::new(create(alloc, streams, name)?, pages))),
         None => Ok(None),
     }
@@ -139,22 +149,22 @@ fn ending_of(served: io::Result<Served>, limit: u64) -> Result<Ending, Fault<'st
     }
 }
 
-/// A set like that of the session, where what passes is to be told.
+/// A set like that of the session, where the values that pass are wanted.
 fn overheard(
     alloc: Global,
-    choices: LiveChoices<'_>,
+    wanted: bool,
     linked: &Linked<'_>,
     pages: &[u32],
 ) -> Result<Option<Set>, Fault<'static>> {
-    match choices.values {
-        true => Ok(Some(make_set(alloc, linked, pages)?)),
-        false => Ok(None),
+    if !wanted {
+        return Ok(None);
     }
+    Ok(Some(make_set(alloc, linked, pages)?))
 }
 
 /// The most moves.
-fn limit_of(alloc: Global, choices: LiveChoices<'_>) -> Result<u64, Fault<'static>> {
-    match choices.limit {
+fn limit_of(alloc: Global, word: Option<&str>) -> Result<u64, Fault<'static>> {
+    match word {
         None => Ok(u64::MAX),
         Some(word) => match read_u64(word) {
             Some(limit) => Ok(limit),
@@ -166,10 +176,10 @@ fn limit_of(alloc: Global, choices: LiveChoices<'_>) -> Result<u64, Fault<'stati
 /// The pages of each component's memory.
 fn pages(
     alloc: Global,
-    choices: LiveChoices<'_>,
+    words: Option<&str>,
     linked: &Linked<'_>,
 ) -> Result<Vec<u32>, Fault<'static>> {
-    match choices.pages {
+    match words {
         Some(words) => given_pages(alloc, words),
         None => declared_pages(alloc, linked),
     }

@@ -1,4 +1,4 @@
-//! A set beside that of a session, which tells what passes.
+//! A set beside that of a session, whose calls and values are written.
 
 use crate::overhearing::Listener;
 use cm_hux_told::files::{Linked, Misuse, Move, Set, Stop, Watcher};
@@ -8,7 +8,7 @@ use std::alloc::{AllocError, Global};
 use std::str;
 
 /// Plays each line on a set of its own, as the session that reads it does on its set: the values
-/// are those of that set, which is told of the same statements. The session is not touched.
+/// are those of that set, which gets the same statements. The session is not touched.
 #[derive(Drop)]
 pub(crate) struct Mirrored<'b, 'a, T> {
     alloc: Global,
@@ -19,7 +19,7 @@ pub(crate) struct Mirrored<'b, 'a, T> {
     /// refused from there on.
     is_recorded: bool,
     has_begun: bool,
-    /// Whether nothing is told any more: there was no memory, or the teller failed.
+    /// Whether no more is written: there was no memory, or a line could not be written.
     is_lost: bool,
 }
 

@@ -1,10 +1,10 @@
 //! Playing a script on the files of a command.
 
-use crate::told_play::{Form, Play};
+use crate::told_play::{Form, Play, Wanted};
 use cm_hux_drive::files::{Ending, Fault, Files, Linked, LoadedFiles, load_files, make_set};
 use cm_hux_drive::{HuxScript, Names, load_script};
 use cm_hux_told::component_names;
-use cm_hux_words::{Habits, PlayChoices};
+use cm_hux_words::{Habits, PlayWords};
 use cm_tool_script::read_u64;
 use std::alloc::{AllocError, Global};
 use std::io::Write;
@@ -14,57 +14,71 @@ const MESSAGES: u64 = 100;
 
 /// Links the components of files, and plays the script of another, whose checks are made: prints
 /// its events, or what components say to one another, as lines, as JSON objects in lines, or as a
-/// diagram, which is one object then; if nothing is to be said but what is wrong, only its traps.
+/// diagram, which is one object then. Where only what is wrong is wanted, it prints the traps.
 pub fn run_play<'a, F: Files, O: Write, E: Write>(
     alloc: Global,
-    script: &'a str,
-    names: &[&'a str],
-    choices: PlayChoices<'a>,
+    words: &PlayWords<'a>,
     habits: Habits,
     files: &mut F,
     out: &mut O,
     err: &mut E,
 ) -> Result<Ending, Fault<'a>> {
-    let form = form_of(alloc, choices)?;
-    let (loaded, unread) = load_files(alloc, files, names);
+    let form = form_of(alloc, words)?;
+    let (loaded, unread) = load_files(alloc, files, &words.files);
     let linked = loaded.link(alloc, unread)?;
-    let script = script_of(alloc, script, &linked, files)?;
-    let mut set = make_set(alloc, &linked, &script.script.pages)?;
-    let shown = component_names(alloc, &loaded)?;
+    let script = script_of(alloc, words.script, &linked, files)?;
+    let wanted = Wanted { form, habits };
+    Ok(play_linked(alloc, wanted, script, &loaded, &linked, out, err)?)
+}
+
+/// Plays a script on a set of what is linked.
+fn play_linked<O: Write, E: Write>(
+    alloc: Global,
+    wanted: Wanted,
+    script: HuxScript,
+    loaded: &LoadedFiles<'_>,
+    linked: &Linked<'_>,
+    out: &mut O,
+    err: &mut E,
+) -> Result<Ending, Fault<'static>> {
+    let mut set = make_set(alloc, linked, &script.script.pages)?;
+    let shown = component_names(alloc, loaded)?;
     let play = Play {
         alloc,
-        names: file_names(alloc, &loaded)?,
-        shown: shown.as_slice(),
-        linked: &linked,
+        names: file_names(alloc, loaded)?,
+        shown: &shown,
+        linked,
         set: &mut set,
         script,
-        habits,
+        wanted,
     };
-    let ended = play.told(form, out, err);
+    let ended = play.print(out, err);
     match ended {
         Ok(ending) => Ok(ending),
         Err(stop) => Err(stop.fault()),
     }
 }
 
-/// What is told of a play that is asked for so.
-fn form_of(alloc: Global, choices: PlayChoices<'_>) -> Result<Form, Fault<'static>> {
-    let messages = match choices.messages {
-        None => MESSAGES,
-        Some(word) => match read_u64(word) {
-            Some(messages) => messages,
-            None => {
-                let text = format!(in alloc; "error: --messages {word}: no number")?;
-                return Err(Fault::Usage(text));
-            }
-        },
-    };
-    if choices.values {
+/// What the words want printed.
+fn form_of(alloc: Global, words: &PlayWords<'_>) -> Result<Form, Fault<'static>> {
+    let messages = messages_of(alloc, words.messages)?;
+    if words.values {
         Ok(Form::Values)
-    } else if choices.mermaid {
+    } else if words.mermaid {
         Ok(Form::Chart(messages))
     } else {
         Ok(Form::Events)
+    }
+}
+
+/// The most messages of a diagram.
+fn messages_of(alloc: Global, word: Option<&str>) -> Result<u64, Fault<'static>> {
+    let Some(word) = word else {
+        return Ok(MESSAGES);
+    };
+    match read_u64(word) {
+        Some(messages) => Ok(messages),
+        None => Err(Fault::Usage(format!(in alloc; "error: --messages {word}: no number")?)),
     }
 }
 

@@ -1,4 +1,4 @@
-//! A play, told in one of several forms.
+//! A play, printed in one of several forms.
 
 use cm_hux_drive::files::{Ending, Linked, Set, Stop, Watcher, tell_bytes, told};
 use cm_hux_drive::{HuxScript, play_script};
@@ -8,7 +8,7 @@ use std::alloc::Global;
 use std::io;
 use std::io::Write;
 
-/// What is told of a play.
+/// What is printed of a play.
 #[derive(Clone, Copy, Drop)]
 pub(crate) enum Form {
     /// Its events.
@@ -17,6 +17,13 @@ pub(crate) enum Form {
     Values,
     /// A diagram of that, of at most so many messages.
     Chart(u64),
+}
+
+/// What the words want printed, and in which form.
+#[derive(Clone, Copy, Drop)]
+pub(crate) struct Wanted {
+    pub(crate) form: Form,
+    pub(crate) habits: Habits,
 }
 
 /// A script that is to be played on a set of what is linked.
@@ -30,25 +37,23 @@ pub(crate) struct Play<'s, 'n, 'l, 'a> {
     pub(crate) linked: &'l Linked<'a>,
     pub(crate) set: &'s mut Set,
     pub(crate) script: HuxScript,
-    pub(crate) habits: Habits,
+    pub(crate) wanted: Wanted,
 }
 
 impl Play<'_, '_, '_, '_> {
-    /// Plays the script, and tells of it in this form. A diagram is one text: it is not told where
-    /// nothing is to be said but what is wrong.
-    pub(crate) fn told<O: Write, E: Write>(
+    /// Plays the script, and prints what is wanted of it. A diagram is one text: it is not printed
+    /// where only what is wrong is wanted.
+    pub(crate) fn print<O: Write, E: Write>(
         self,
-        form: Form,
         out: &mut O,
         err: &mut E,
     ) -> Result<Ending, Stop> {
+        let Wanted { form, habits } = self.wanted;
         match form {
             Form::Events => self.events(out, err),
             Form::Values => self.values(out, err),
-            Form::Chart(messages) if self.habits.quiet => {
-                self.chart(messages, &mut io::sink(), err)
-            }
-            Form::Chart(messages) if self.habits.json => self.chart_object(messages, out, err),
+            Form::Chart(messages) if habits.quiet => self.chart(messages, &mut io::sink(), err),
+            Form::Chart(messages) if habits.json => self.chart_object(messages, out, err),
             Form::Chart(messages) => self.chart(messages, out, err),
         }
     }
@@ -67,7 +72,7 @@ impl Play<'_, '_, '_, '_> {
 
     fn events<O: Write, E: Write>(self, out: &mut O, err: &mut E) -> Result<Ending, Stop> {
         let alloc = self.alloc;
-        let habits = self.habits;
+        let habits = self.wanted.habits;
         self.watched(&mut ToldEvents { alloc, habits, out }, err)
     }
 
@@ -75,7 +80,7 @@ impl Play<'_, '_, '_, '_> {
         let said = SaidObjects {
             alloc: self.alloc,
             names: self.shown,
-            habits: self.habits,
+            habits: self.wanted.habits,
             out,
         };
         let watch = Watch::new(self.alloc, self.linked)?;

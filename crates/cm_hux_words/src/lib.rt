@@ -1,8 +1,14 @@
 //! The words of the command line of `hux`, read as a request.
 #![tactic(auto)]
 
+mod asked;
 mod commands;
+mod program;
 mod request;
+mod words;
 
-pub use commands::VERSION;
-pub use request::{Answer, BundleChoices, Habits, LiveChoices, PlayChoices, Request, WordsFault};
+pub use asked::{
+    CallWords, ConformWords, DiffWords, LinkWords, LiveWords, PlayWords, PlugWords, StubWords,
+};
+pub use program::VERSION;
+pub use request::{Answer, Habits, Request, WordsFault};

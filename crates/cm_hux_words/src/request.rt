@@ -1,119 +1,51 @@
 //! What the words of the command line ask for.
 
-use crate::commands::program;
+use crate::asked::{
+    CallWords, ConformWords, DiffWords, LinkWords, LiveWords, PlayWords, PlugWords, StubWords,
+};
+use crate::program::program;
 use clap::error::ErrorKind;
 use clap::{ArgMatches, Error};
 use std::alloc::{AllocError, AllocFailed, Global};
 
-/// A command, with the names of its files in order.
+/// A command, with its words.
 #[derive(Drop)]
 pub enum Request<'a> {
     /// `check FILE..`
-    Check {
-        files: Vec<&'a str>,
-    },
+    Check { files: Vec<&'a str> },
     /// `show FILE`
-    Show {
-        file: &'a str,
-    },
+    Show { file: &'a str },
     /// `core FILE`
-    Core {
-        file: &'a str,
-    },
+    Core { file: &'a str },
     /// `conform --wit W --world N FILE`
-    Conform {
-        wit: &'a str,
-        world: &'a str,
-        file: &'a str,
-    },
+    Conform(ConformWords<'a>),
     /// `link FILE.. [-o OUT [--export I]] [--mermaid]`
-    Link {
-        files: Vec<&'a str>,
-        bundle: BundleChoices<'a>,
-        mermaid: bool,
-    },
+    Link(LinkWords<'a>),
     /// `unbundle FILE -o DIR`
-    Unbundle {
-        file: &'a str,
-        folder: &'a str,
-    },
-    /// `plug --plug PROVIDER.. SOCKET [-o OUT]`: the providers in order, and behind them the
-    /// socket.
-    Plug {
-        files: Vec<&'a str>,
-        bundle: BundleChoices<'a>,
-    },
+    Unbundle { file: &'a str, folder: &'a str },
+    /// `plug --plug PROVIDER.. SOCKET [-o OUT]`
+    Plug(PlugWords<'a>),
     /// `play --script S FILE.. [--values] [--mermaid [--messages N]]`
-    Play {
-        script: &'a str,
-        files: Vec<&'a str>,
-        choices: PlayChoices<'a>,
-    },
+    Play(PlayWords<'a>),
     /// `call [--script S] FILE.. CALL`
-    Call {
-        script: Option<&'a str>,
-        files: Vec<&'a str>,
-        call: &'a str,
-    },
+    Call(CallWords<'a>),
     /// `live FILE.. [--record SCRIPT] [--limit N] [--pages N,N,..] [--values]`
-    Live {
-        files: Vec<&'a str>,
-        choices: LiveChoices<'a>,
-    },
+    Live(LiveWords<'a>),
     /// `stub FILE.. -o OUT`, or `stub --caller FILE.. -o OUT`
-    Stub {
-        files: Vec<&'a str>,
-        caller: bool,
-        out: &'a str,
-    },
+    Stub(StubWords<'a>),
     /// `explain WHAT..`
-    Explain {
-        words: Vec<&'a str>,
-    },
+    Explain { words: Vec<&'a str> },
     /// `diff A B [--world N [--world N]]`
-    Diff {
-        old: &'a str,
-        new: &'a str,
-        worlds: Vec<&'a str>,
-    },
+    Diff(DiffWords<'a>),
 }
 
-/// How a command tells what it does.
+/// What a command prints, and in which form.
 #[derive(Clone, Copy, Drop)]
 pub struct Habits {
     /// As JSON, an object a line.
     pub json: bool,
     /// Only what is wrong.
     pub quiet: bool,
-}
-
-/// What `play` prints beside or in place of its events.
-#[derive(Clone, Copy, Drop)]
-pub struct PlayChoices<'a> {
-    /// Calls and results with their values.
-    pub values: bool,
-    /// A sequence diagram.
-    pub mermaid: bool,
-    /// The most messages of the diagram: the word behind the option.
-    pub messages: Option<&'a str>,
-}
-
-/// Where a set is written as one file, if it is, and which component's exports that has: the words
-/// behind the options.
-#[derive(Clone, Copy, Drop)]
-pub struct BundleChoices<'a> {
-    pub out: Option<&'a str>,
-    pub export: Option<&'a str>,
-}
-
-/// What may be said of `live`: the words behind its options.
-#[derive(Clone, Copy, Drop)]
-pub struct LiveChoices<'a> {
-    pub record: Option<&'a str>,
-    pub limit: Option<&'a str>,
-    pub pages: Option<&'a str>,
-    /// Whether calls and their values are told on standard error.
-    pub values: bool,
 }
 
 /// What words ask for.
@@ -188,121 +120,123 @@ fn habits_in(found: &ArgMatches<'_>) -> Habits {
 
 fn request_of<'a>(alloc: Global, matches: &ArgMatches<'a>) -> Result<Request<'a>, WordsFault> {
     match matches.subcommand() {
-        Some(("check", found)) => {
-            let files = files_of(alloc, found, "files")?;
-            Ok(Request::Check { files })
-        }
-        Some(("show", found)) => {
-            let file = value_of(alloc, found, "file")?;
-            Ok(Request::Show { file })
-        }
-        Some(("core", found)) => {
-            let file = value_of(alloc, found, "file")?;
-            Ok(Request::Core { file })
-        }
-        Some(("conform", found)) => conform_of(alloc, found),
-        Some(("link", found)) => {
-            let files = files_of(alloc, found, "files")?;
-            Ok(Request::Link {
-                files,
-                bundle: bundle_of(found),
-                mermaid: found.get_flag("mermaid"),
-            })
-        }
-        Some(("unbundle", found)) => {
-            let file = value_of(alloc, found, "file")?;
-            let folder = value_of(alloc, found, "out")?;
-            Ok(Request::Unbundle { file, folder })
-        }
-        Some(("plug", found)) => plug_of(alloc, found),
-        Some(("play", found)) => play_of(alloc, found),
-        Some(("call", found)) => call_of(alloc, found),
-        Some(("live", found)) => live_of(alloc, found),
-        Some(("stub", found)) => stub_of(alloc, found),
-        Some(("explain", found)) => {
-            let words = files_of(alloc, found, "what")?;
-            Ok(Request::Explain { words })
-        }
-        Some(("diff", found)) => diff_of(alloc, found),
+        Some(("check", found)) => check(alloc, found),
+        Some(("show", found)) => show(alloc, found),
+        Some(("core", found)) => core(alloc, found),
+        Some(("conform", found)) => conform(alloc, found),
+        Some(("link", found)) => link(alloc, found),
+        Some(("unbundle", found)) => unbundle(alloc, found),
+        Some(("plug", found)) => plug(alloc, found),
+        Some(("play", found)) => play(alloc, found),
+        Some(("call", found)) => call(alloc, found),
+        Some(("live", found)) => live(alloc, found),
+        Some(("stub", found)) => stub(alloc, found),
+        Some(("explain", found)) => explain(alloc, found),
+        Some(("diff", found)) => diff(alloc, found),
         _ => Err(no_command(alloc)),
     }
 }
 
-fn conform_of<'a>(alloc: Global, found: &ArgMatches<'a>) -> Result<Request<'a>, WordsFault> {
+fn check<'a>(alloc: Global, found: &ArgMatches<'a>) -> Result<Request<'a>, WordsFault> {
+    let files = values_of(alloc, found, "files")?;
+    Ok(Request::Check { files })
+}
+
+fn show<'a>(alloc: Global, found: &ArgMatches<'a>) -> Result<Request<'a>, WordsFault> {
+    let file = value_of(alloc, found, "file")?;
+    Ok(Request::Show { file })
+}
+
+fn core<'a>(alloc: Global, found: &ArgMatches<'a>) -> Result<Request<'a>, WordsFault> {
+    let file = value_of(alloc, found, "file")?;
+    Ok(Request::Core { file })
+}
+
+fn conform<'a>(alloc: Global, found: &ArgMatches<'a>) -> Result<Request<'a>, WordsFault> {
     let wit = value_of(alloc, found, "wit")?;
     let world = value_of(alloc, found, "world")?;
     let file = value_of(alloc, found, "file")?;
-    Ok(Request::Conform { wit, world, file })
+    Ok(Request::Conform(ConformWords { wit, world, file }))
 }
 
-fn plug_of<'a>(alloc: Global, found: &ArgMatches<'a>) -> Result<Request<'a>, WordsFault> {
-    let mut files = files_of(alloc, found, "plug")?;
-    files.push(value_of(alloc, found, "file")?)?;
-    let bundle = bundle_of(found);
-    Ok(Request::Plug { files, bundle })
-}
-
-fn bundle_of<'a>(found: &ArgMatches<'a>) -> BundleChoices<'a> {
-    BundleChoices {
+fn link<'a>(alloc: Global, found: &ArgMatches<'a>) -> Result<Request<'a>, WordsFault> {
+    let files = values_of(alloc, found, "files")?;
+    Ok(Request::Link(LinkWords {
+        files,
         out: found.get_str("out"),
         export: found.get_str("export"),
-    }
+        mermaid: found.get_flag("mermaid"),
+    }))
 }
 
-fn play_of<'a>(alloc: Global, found: &ArgMatches<'a>) -> Result<Request<'a>, WordsFault> {
+fn unbundle<'a>(alloc: Global, found: &ArgMatches<'a>) -> Result<Request<'a>, WordsFault> {
+    let file = value_of(alloc, found, "file")?;
+    let folder = value_of(alloc, found, "out")?;
+    Ok(Request::Unbundle { file, folder })
+}
+
+fn plug<'a>(alloc: Global, found: &ArgMatches<'a>) -> Result<Request<'a>, WordsFault> {
+    let socket = value_of(alloc, found, "file")?;
+    let mut files = values_of(alloc, found, "plug")?;
+    files.push(socket)?;
+    let out = found.get_str("out");
+    Ok(Request::Plug(PlugWords { files, out }))
+}
+
+fn play<'a>(alloc: Global, found: &ArgMatches<'a>) -> Result<Request<'a>, WordsFault> {
     let script = value_of(alloc, found, "script")?;
-    let files = files_of(alloc, found, "files")?;
-    let choices = PlayChoices {
+    let files = values_of(alloc, found, "files")?;
+    Ok(Request::Play(PlayWords {
+        script,
+        files,
         values: found.get_flag("values"),
         mermaid: found.get_flag("mermaid"),
         messages: found.get_str("messages"),
-    };
-    Ok(Request::Play {
+    }))
+}
+
+fn call<'a>(alloc: Global, found: &ArgMatches<'a>) -> Result<Request<'a>, WordsFault> {
+    let call = value_of(alloc, found, "call")?;
+    let files = values_of(alloc, found, "files")?;
+    let script = found.get_str("script");
+    Ok(Request::Call(CallWords {
         script,
         files,
-        choices,
-    })
-}
-
-fn call_of<'a>(alloc: Global, found: &ArgMatches<'a>) -> Result<Request<'a>, WordsFault> {
-    let files = files_of(alloc, found, "files")?;
-    let call = value_of(alloc, found, "call")?;
-    Ok(Request::Call {
-        script: found.get_str("script"),
-        files,
         call,
-    })
+    }))
 }
 
-fn diff_of<'a>(alloc: Global, found: &ArgMatches<'a>) -> Result<Request<'a>, WordsFault> {
+fn live<'a>(alloc: Global, found: &ArgMatches<'a>) -> Result<Request<'a>, WordsFault> {
+    let files = values_of(alloc, found, "files")?;
+    Ok(Request::Live(LiveWords {
+        files,
+        record: found.get_str("record"),
+        limit: found.get_str("limit"),
+        pages: found.get_str("pages"),
+        values: found.get_flag("values"),
+    }))
+}
+
+fn stub<'a>(alloc: Global, found: &ArgMatches<'a>) -> Result<Request<'a>, WordsFault> {
+    let out = value_of(alloc, found, "out")?;
+    let files = values_of(alloc, found, "files")?;
+    let caller = found.get_flag("caller");
+    Ok(Request::Stub(StubWords { files, caller, out }))
+}
+
+fn explain<'a>(alloc: Global, found: &ArgMatches<'a>) -> Result<Request<'a>, WordsFault> {
+    let words = values_of(alloc, found, "what")?;
+    Ok(Request::Explain { words })
+}
+
+fn diff<'a>(alloc: Global, found: &ArgMatches<'a>) -> Result<Request<'a>, WordsFault> {
     let old = value_of(alloc, found, "old")?;
     let new = value_of(alloc, found, "new")?;
     let worlds = match found.get_strs("world") {
         Some(worlds) => worlds.to_vec(alloc)?,
         None => Vec::new(alloc),
     };
-    Ok(Request::Diff { old, new, worlds })
-}
-
-fn live_of<'a>(alloc: Global, found: &ArgMatches<'a>) -> Result<Request<'a>, WordsFault> {
-    let files = files_of(alloc, found, "files")?;
-    let choices = LiveChoices {
-        record: found.get_str("record"),
-        limit: found.get_str("limit"),
-        pages: found.get_str("pages"),
-        values: found.get_flag("values"),
-    };
-    Ok(Request::Live { files, choices })
-}
-
-fn stub_of<'a>(alloc: Global, found: &ArgMatches<'a>) -> Result<Request<'a>, WordsFault> {
-    let out = value_of(alloc, found, "out")?;
-    let files = files_of(alloc, found, "files")?;
-    Ok(Request::Stub {
-        files,
-        caller: found.get_flag("caller"),
-        out,
-    })
+    Ok(Request::Diff(DiffWords { old, new, worlds }))
 }
 
 fn no_command(alloc: Global) -> WordsFault {
@@ -316,13 +250,13 @@ fn value_of<'a>(alloc: Global, found: &ArgMatches<'a>, id: &str) -> Result<&'a s
     }
 }
 
-fn files_of<'a>(
+fn values_of<'a>(
     alloc: Global,
     found: &ArgMatches<'a>,
     id: &str,
 ) -> Result<Vec<&'a str>, WordsFault> {
     match found.get_strs(id) {
-        Some(names) => Ok(names.to_vec(alloc)?),
+        Some(values) => Ok(values.to_vec(alloc)?),
         None => Err(no_command(alloc)),
     }
 }

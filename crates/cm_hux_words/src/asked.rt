@@ -1,0 +1,80 @@
+//! The words of each command. Files stand in the order of the command line; options that were not
+//! given are `None` or `false`.
+
+/// `conform --wit W --world N FILE`
+#[derive(Clone, Copy, Drop)]
+pub struct ConformWords<'a> {
+    pub wit: &'a str,
+    pub world: &'a str,
+    pub file: &'a str,
+}
+
+/// `link FILE.. [-o OUT [--export I]] [--mermaid]`
+#[derive(Drop)]
+pub struct LinkWords<'a> {
+    pub files: Vec<&'a str>,
+    /// The file that the set is written to.
+    pub out: Option<&'a str>,
+    /// The number of the component whose exports that file has.
+    pub export: Option<&'a str>,
+    /// Whether a graph is printed.
+    pub mermaid: bool,
+}
+
+/// `plug --plug PROVIDER.. SOCKET [-o OUT]`
+#[derive(Drop)]
+pub struct PlugWords<'a> {
+    /// The providers, and behind them the socket.
+    pub files: Vec<&'a str>,
+    /// The file that the set is written to.
+    pub out: Option<&'a str>,
+}
+
+/// `play --script S FILE.. [--values] [--mermaid [--messages N]]`
+#[derive(Drop)]
+pub struct PlayWords<'a> {
+    pub script: &'a str,
+    pub files: Vec<&'a str>,
+    /// Whether calls and results are printed with their values.
+    pub values: bool,
+    /// Whether a sequence diagram is printed in the place of events.
+    pub mermaid: bool,
+    /// The most messages of the diagram.
+    pub messages: Option<&'a str>,
+}
+
+/// `call [--script S] FILE.. CALL`
+#[derive(Drop)]
+pub struct CallWords<'a> {
+    pub script: Option<&'a str>,
+    pub files: Vec<&'a str>,
+    pub call: &'a str,
+}
+
+/// `live FILE.. [--record SCRIPT] [--limit N] [--pages N,N,..] [--values]`
+#[derive(Drop)]
+pub struct LiveWords<'a> {
+    pub files: Vec<&'a str>,
+    pub record: Option<&'a str>,
+    pub limit: Option<&'a str>,
+    pub pages: Option<&'a str>,
+    /// Whether calls and their values are written to standard error.
+    pub values: bool,
+}
+
+/// `stub FILE.. -o OUT`, or `stub --caller FILE.. -o OUT`
+#[derive(Drop)]
+pub struct StubWords<'a> {
+    pub files: Vec<&'a str>,
+    /// Whether the stub calls what the last file exports, or exports what the files import.
+    pub caller: bool,
+    pub out: &'a str,
+}
+
+/// `diff A B [--world N [--world N]]`
+#[derive(Drop)]
+pub struct DiffWords<'a> {
+    pub old: &'a str,
+    pub new: &'a str,
+    pub worlds: Vec<&'a str>,
+}
