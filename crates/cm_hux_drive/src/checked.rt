@@ -36,8 +36,8 @@ impl<W: Watcher, E: Write> Watching<'_, W, E> {
         self.checks.make(moment, set, event, self.watcher, self.err)
     }
 
-    /// Ends a drive: its checks are made, and what it came to is told, where that is a fault or a
-    /// trap. A trap that a check expects is fine.
+    /// Ends a drive: makes its checks, and prints its fault or its trap, where it has one. A trap
+    /// that a check expects is fine.
     pub fn end(&mut self, set: &Set, played: &Played, drive: Drive) -> Result<Ending, Stop> {
         match played {
             Played::Ended => {
@@ -95,7 +95,8 @@ impl<W: Watcher, E: Write> Watching<'_, W, E> {
         Ok(Ending::Refused)
     }
 
-    /// Ends the play: what was not looked at is told. The end is `Refused` where a check failed.
+    /// Ends the play, and prints which checks were not made. The end is `Refused` where a check
+    /// failed.
     pub fn finish(&mut self, ending: Ending) -> Result<Ending, Stop> {
         self.checks.tell_of_others(self.watcher, self.err)?;
         self.watcher.end()?;
@@ -128,8 +129,8 @@ impl<W: Watcher, E: Write> Driven for Watching<'_, W, E> {
     }
 }
 
-/// Plays each drive of a script, in order, makes its checks, and tells a watcher. The events and
-/// their order are those of `component_tool play`.
+/// Plays each drive of a script, in order, makes its checks, and shows a watcher each move and
+/// event. The events and their order are those of `component_tool play`.
 ///
 /// A drive that is refused or that reaches its limit has a line on standard error, one that traps
 /// two, with the names of the components and the usual cause; and the later ones run. So has a

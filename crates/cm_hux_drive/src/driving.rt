@@ -1,10 +1,10 @@
-//! Drives of a set whose every event is told.
+//! Drives of a set, whose every event somebody sees.
 
 use cm_hux_explain::Trap;
 use cm_hux_files::{Event, Misuse, Move, Set, Stop};
 use cm_machine_guests::{MoveQueue, SeeingGuest, WithAllocator};
 
-/// What is told of a drive. Its first fault ends the play.
+/// Who sees the moves and events of a drive. The first fault ends the play.
 pub trait Driven {
     /// The drive of this root has begun, with this event.
     fn begun(&mut self, set: &Set, root: u32, event: &Event) -> Result<(), Stop>;
@@ -56,8 +56,8 @@ impl Seat {
 }
 
 /// Plays a root call of an instance by the guests on these seats, until an event is the last or so
-/// many moves were made, and tells of each move and event as it comes. The fault is that of who is
-/// told.
+/// many moves were made, and shows each move and event as it comes. The fault is that of who sees
+/// them.
 pub fn drive<D: Driven>(
     set: &mut Set,
     seats: &mut Vec<Seat>,

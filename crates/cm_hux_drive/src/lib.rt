@@ -1,4 +1,4 @@
-//! Plays of scripts of `hux`: their moves are made, their checks too, and a watcher is told.
+//! Plays of scripts of `hux`: their moves and their checks are made, and a watcher sees them.
 #![tactic(auto)]
 
 mod checked;

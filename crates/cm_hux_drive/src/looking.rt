@@ -52,7 +52,7 @@ fn bytes_at(memory: &[u8], at: u32, size: usize) -> Option<&[u8]> {
     memory.get(start..start.saturating_add(size))
 }
 
-/// What is said of a memory that ends before what is wanted does.
+/// The text of a memory that ends before the expected bytes do.
 fn too_short(alloc: Global, memory: &[u8], at: u32, size: usize) -> Result<Found, AllocError> {
     let length = memory.len();
     Ok(Found::Other(format!(in alloc; "expected {size} bytes at {at}, had a memory of {length}")?))
@@ -82,8 +82,8 @@ fn equal_front(wanted: &[u8], had: &[u8]) -> usize {
         .count()
 }
 
-/// What is said of other bytes than wanted: all of them, or where they are many those from the
-/// first that is another on.
+/// The text of bytes that are not the expected ones: all bytes, or where they are many those from
+/// the first that differs.
 fn others_found(alloc: Global, at: u32, wanted: &[u8], had: &[u8]) -> Result<Found, AllocError> {
     let skipped = if wanted.len() <= MOST {
         0

@@ -9,7 +9,7 @@ use std::fmt::Write as _;
 use std::io;
 use std::io::Write;
 
-/// The most names that are told as near.
+/// The most names that are listed as near.
 const MAX_NEAR: usize = 5;
 
 /// A row that words ask for, and what of it.
@@ -29,7 +29,7 @@ struct Asked<'r> {
     found: Vec<Found>,
 }
 
-/// What is said of each trap, misuse and reason that the words name.
+/// The rows of the traps, misuses and reasons that the words name.
 ///
 /// A word is a name, in letters of either case, or a kind: `trap` or the name of an enum, as
 /// `ValidReason`. A kind with a number behind it names one row, and alone all rows of the kind, of
@@ -46,7 +46,7 @@ pub fn find(alloc: Global, words: &[&str]) -> Result<Vec<Found>, ExplainFault> {
     Ok(asked.found)
 }
 
-/// Writes what is said of these, with an empty line before each that is told whole, but the first.
+/// Writes these rows, with an empty line before each that is written whole, but the first.
 pub fn write_found<O: Write>(found: &[Found], out: &mut O) -> io::Result<()> {
     for (number, each) in found.iter().enumerate() {
         match each {
@@ -126,7 +126,7 @@ impl Asked<'_> {
     }
 }
 
-/// What is said of a kind that has no such number.
+/// The text of a kind that has no such number.
 fn unknown_number(
     alloc: Global,
     rows: &[Row],
@@ -146,7 +146,7 @@ fn unknown_number(
     }
 }
 
-/// What is said of a word that is neither a kind nor a name: the names that are near.
+/// The text of a word that is neither a kind nor a name: the names that are near.
 fn unknown_word(alloc: Global, rows: &[Row], word: &str) -> Result<String, AllocError> {
     let mut text = String::new(alloc);
     write!(

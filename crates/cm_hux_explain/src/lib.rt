@@ -1,7 +1,7 @@
 //! What traps, misuses and reasons mean, their usual causes, and what to do.
 //!
-//! What is said stands in `explained.toml`, and what each means in docs/RULES.md and on the pages
-//! of crates; the rows are written of both, by checks/explained.
+//! Causes and remedies stand in `explained.toml`, meanings in docs/RULES.md and on the pages of
+//! crates; the rows are written of both, by checks/explained.
 #![tactic(auto)]
 
 mod asked;

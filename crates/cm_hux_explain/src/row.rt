@@ -1,9 +1,9 @@
-//! What is said of one trap, misuse or reason.
+//! The row of one trap, misuse or reason.
 
 use std::io;
 use std::io::Write;
 
-/// A trap, a misuse or a reason, and what is said of it.
+/// A trap, a misuse or a reason, with its meaning.
 #[derive(Clone, Copy)]
 pub struct Row {
     /// The word of its kind, as `trap`.

@@ -10,7 +10,7 @@ mod values;
 use crate::row::Row;
 use std::alloc::{AllocError, Global};
 
-/// What is said of each trap, misuse and reason: those of a kind stand together, by their numbers.
+/// The rows of all traps, misuses and reasons: those of a kind stand together, by their numbers.
 /// Refused only where there is no memory.
 pub fn all_rows(alloc: Global) -> Result<Vec<Row>, AllocError> {
     let mut rows = Vec::new(alloc);

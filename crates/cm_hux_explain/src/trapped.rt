@@ -1,4 +1,4 @@
-//! What is said where a drive trapped.
+//! The lines of a drive that trapped.
 
 use crate::rows::traps::TRAP;
 use cm_machine_model::{Move, Trap};

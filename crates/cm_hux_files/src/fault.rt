@@ -1,4 +1,4 @@
-//! Why a command ends early, and what is said of it.
+//! Why a command ends early, and the line that it prints then.
 
 ghost use Rattle.std.specs.Prelude.{◌≡◌};
 ghost use Rattle.cm_tool.specs.cm_tool_commands.Statuses as tool;
@@ -17,7 +17,7 @@ use std::alloc::{AllocError, AllocFailed};
 use std::io::Write;
 use std::{fmt, io};
 
-/// What is said on standard error. A name is the word of the command line.
+/// Why a command ends early. A name is the word of the command line.
 #[derive(Drop)]
 pub enum Fault<'a> {
     /// The words are no command: what is wrong, and what is expected.

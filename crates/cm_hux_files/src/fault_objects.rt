@@ -109,7 +109,7 @@ fn with_link_fault(object: Object, fault: &LinkFault) -> Result<Object, AllocErr
     object.with("import", fault.import)
 }
 
-/// A fault of a stub; that of a component or of links which it stands for is told in its place.
+/// A fault of a stub. Where it stands for that of a component or of links, that is written.
 fn with_stub_fault(object: Object, fault: &StubFault) -> Result<Object, AllocError> {
     match fault {
         StubFault::Component { component, fault } => {

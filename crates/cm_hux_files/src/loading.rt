@@ -78,7 +78,7 @@ pub fn load_file<'a, F: Files>(
     load_bytes(alloc, name, read_bytes(alloc, files, name)?)
 }
 
-/// The same of a file with these bytes.
+/// What a file with these bytes stands for, which may have shims.
 pub fn load_bytes<'a>(alloc: Global, name: &'a str, bytes: Vec<u8>) -> Result<Loaded<'a>, Fault<'a>>
     ensures name { IfOk result (λ l. l.name ≡ name.entry) }
     ensures read { IfOk result (λ l. IsReadAs l.bytes.items (outcome (Ok l.shimmed))) }
@@ -126,7 +126,7 @@ impl<'a> Loaded<'a> {
     }
 
     /// What the items of a file have at a fault, in words. A file with shims numbers its types in
-    /// another way than the component that it stands for, so that nothing is said of it.
+    /// another way than the component that it stands for, so that the text is empty.
     fn help(&self, alloc: Global, fault: ValidFault) -> Result<String, AllocError> {
         match component_of(alloc, self.name, self.bytes.as_slice()) {
             Ok(component) => valid_help(alloc, &component, fault),

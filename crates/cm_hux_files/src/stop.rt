@@ -7,14 +7,14 @@ use std::io;
 /// Why a play ends early.
 #[derive(Clone, Copy, Debug, PartialEq)]
 pub enum Stop {
-    /// What is told cannot be written.
+    /// A line cannot be written.
     Output,
     /// There was no memory.
     Memory,
 }
 
 impl Stop {
-    /// Why a play ends where what is told met this fault.
+    /// Why a play ends where writing a line ended in this fault.
     pub fn of(fault: &Fault<'_>) -> Stop {
         match fault {
             Fault::Memory => Stop::Memory,

@@ -4,8 +4,8 @@ use crate::fault::Fault;
 use crate::stop::Stop;
 use cm_tool::{Event, Move, Set};
 
-/// Watches a play: it is told of each drive that begins, and then of each move before it is made,
-/// and of each event, in turn. Its first fault ends the play.
+/// Watches a play: it sees each drive that begins, and then each move before it is made, and each
+/// event, in turn. Its first fault ends the play.
 pub trait Watcher {
     /// A drive begins with the root call of this instance, which is this event.
     fn begin(&mut self, set: &Set, root: u32, event: &Event) -> Result<(), Stop>;

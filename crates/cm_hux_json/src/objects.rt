@@ -55,7 +55,7 @@ impl Object {
             .with_shown("meaning", meaning)
     }
 
-    /// The same of a reason whose name is what it derives, up to what it carries.
+    /// With what a reason is, as `with_reason`; its name is that of its variant.
     pub fn with_derived<R: Debug + Display>(
         self,
         kind: &str,

@@ -22,7 +22,7 @@ pub(crate) struct Open {
     pub(crate) phase: Phase,
 }
 
-/// The kind of a move, with what is said of it where it traps.
+/// The kind of a move, with what a trap of it is written with.
 #[derive(Clone, Copy)]
 pub(crate) enum Made {
     Call { func: u32 },

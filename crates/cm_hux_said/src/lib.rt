@@ -1,7 +1,7 @@
 //! What components say to one another in a play: calls and results, by names, with their values.
 //!
-//! A `Watch` is told of each move before it is made and of each event after it, and tells a
-//! `Message` of what passed. Values are those of the proved `lift` in the view of who gives them.
+//! A `Watch` sees each move before it is made and each event after it, and answers a `Message` of
+//! what passed. Values are those of the proved `lift` in the view of who gives them.
 #![tactic(auto)]
 
 mod bounded;

@@ -95,7 +95,7 @@ impl<'b> Handles<'_, 'b, '_> {
         self.put_numbered(out, moved_resource(self.by, resource).number, index)
     }
 
-    /// The same of a resource by its number in the component.
+    /// Puts the name and the serial number of a resource by its number in the component, as `put`.
     pub(crate) fn put_numbered(
         &self,
         out: &mut Bounded,

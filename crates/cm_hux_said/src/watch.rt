@@ -25,10 +25,10 @@ pub struct Actor<'s> {
     pub closed: &'s [bool],
 }
 
-/// Watches a linked set that plays: it is told of each move before it is made, and of each event,
-/// and tells what passed.
+/// Watches a linked set that plays: it sees each move before it is made, and each event, and
+/// answers what passed.
 ///
-/// Where it was not told of all moves and events of a drive from its begin on, what it tells means
+/// Where it did not see all moves and events of a drive from its begin on, what it answers means
 /// nothing until the next one begins.
 #[derive(Drop)]
 pub struct Watch<'b, 'a> {

@@ -24,8 +24,8 @@ pub enum Wanted {
 pub enum Moment {
     /// Before the first drive.
     Start,
-    /// Where the guest of this component has made so many moves, and what the last of them led to
-    /// is told. Of none: where the guest is first to make a move.
+    /// Where the guest of this component has made so many moves, behind the event of the last.
+    /// Of none: where the guest is first to make a move.
     Guest { component: usize, moves: usize },
     /// Where the drive of this place, from 0, is over.
     Drive(usize),

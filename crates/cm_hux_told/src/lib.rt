@@ -1,6 +1,6 @@
-//! Who watches a play and tells of it, as lines, objects or a diagram.
+//! Watchers of a play, which print it as lines, objects or a diagram.
 //!
-//! Events are told, or what components say to one another.
+//! They print its events, or what components say to one another.
 #![tactic(auto)]
 
 mod charted;
