@@ -1,0 +1,3 @@
+pub mod Spans
+pub mod Texts
+pub mod Verdicts
