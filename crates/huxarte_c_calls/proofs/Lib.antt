@@ -1,0 +1,3 @@
+mod CopyLaws
+mod HandleLaws
+mod RequestLaws
