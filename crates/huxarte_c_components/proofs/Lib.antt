@@ -1,0 +1,2 @@
+mod FuncLaws
+mod OnlyLaws

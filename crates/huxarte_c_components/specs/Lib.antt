@@ -1,0 +1,5 @@
+pub mod Calling
+pub mod Faults
+pub mod Funcs
+pub mod Laying
+pub mod Sound
