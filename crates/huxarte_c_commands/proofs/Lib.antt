@@ -1,0 +1,2 @@
+pub mod LinkLaws
+mod SoundLaws
