@@ -1,0 +1,413 @@
+/* Huxarte for C and C++: component files checked, shown, linked and played, and values of the
+ * Canonical ABI passed, in process.
+ *
+ * Each function is proved to meet its contract for the bytes that it is given, and keeps nothing
+ * between calls: it may be called from any thread, also at once, with memory of its own each. What
+ * is not proved stands with the caller:
+ *
+ * - A pointer and a length, in elements, are those of memory that is there, and aligned, for the
+ *   whole call. A pointer is not NULL, also where the length is 0.
+ * - What a call writes to (each pointer that is not const) overlaps nothing else that it is given,
+ *   and no other thread touches it meanwhile. What it reads may overlap, and stays as it is.
+ * - Memory comes from three functions of the program (examples/c/heap.c): from malloc, realloc and
+ *   free, of one allocator, which align a block to each power of two up to 16 that divides its size.
+ *   Where there is none, the call says so by its answer; nothing is kept allocated behind a call.
+ * - No call is made from a signal handler, or from a forked child of a process with threads.
+ *
+ * A text is written as far as its buffer has room, without a zero behind it; the rest of the buffer
+ * stays as it was. The number of bytes that the text has is told, so that where it is more than the
+ * room, the same call with that room answers the whole text.
+ *
+ * libhuxarte_c.a has these functions. The commands of hux are not among them: hux is a program of
+ * its own.
+ *
+ * Written by checks/header from the exports of crates/huxarte_c. */
+#ifndef HUXARTE_H
+#define HUXARTE_H
+
+#include <stddef.h>
+#include <stdint.h>
+
+#ifdef __cplusplus
+extern "C" {
+#endif
+
+/* What is wrong, by its kind: `HuxVerdict.kind` has its number. */
+enum HuxKind {
+    /* Nothing is wrong. */
+    HUX_KIND_FINE = 0,
+    /* The bytes of a file are no component file: `reason` is the number of a `DecodeReason`,
+     * `place` the byte, from 0. */
+    HUX_KIND_DECODE = 1,
+    /* A shim of a file, or what is made of it, is refused: the number of a `ShimReason`, at the
+     * section `place` and its item `item`. */
+    HUX_KIND_SHIM = 2,
+    /* The plain component of a file passes a limit: the number of a `LimitFault`. */
+    HUX_KIND_LIMIT = 3,
+    /* The plain component of a file is not valid: the number of a `ValidReason`, at the section
+     * `place` of that component and its item `item`. */
+    HUX_KIND_INVALID = 4,
+    /* The plain component of a file is not what the file's shims say: the number of a
+     * `FitReason`, at the want `place`. */
+    HUX_KIND_UNFIT = 5,
+    /* The components can't be linked: the number of a `LinkReason`, at the component `file` and
+     * its import `item`. */
+    HUX_KIND_LINK = 6,
+    /* A WIT text is no package: the number of a `WitReason`, at the byte `place`. */
+    HUX_KIND_WIT = 7,
+    /* A package has no such world, or the world no signature: the number of a `WorldFault`. */
+    HUX_KIND_WORLD = 8,
+    /* A component does not fit a world, at the world's export `place`: the number of a
+     * `ConformReason`. Of an item of an instance, `item` is its place there, else `SIZE_MAX`. */
+    HUX_KIND_WORLD_EXPORT = 9,
+    /* The same at the component's import `place`. */
+    HUX_KIND_OWN_IMPORT = 10,
+    /* A component is not shown: the number of a `ShowFault`. */
+    HUX_KIND_SHOW = 11,
+    /* A part passes the end of the bytes that it is a part of. */
+    HUX_KIND_OUTSIDE = 12,
+    /* What is to be a text is not UTF-8. */
+    HUX_KIND_NO_TEXT = 13,
+    /* There was no memory for a list of what was handed over, or for a signature. Other kinds
+     * have a reason of their own for want of memory. */
+    HUX_KIND_MEMORY = 14,
+    /* A script is refused, or the machine makes no set of the components. */
+    HUX_KIND_UNPLAYED = 15,
+    /* A drive trapped. */
+    HUX_KIND_TRAPPED = 16,
+    /* A drive could not begin, or reached its limit. */
+    HUX_KIND_STOPPED = 17,
+    /* No function of the component has the index. */
+    HUX_KIND_NO_FUNC = 18,
+    /* Strings are read or stored in no encoding of this number. */
+    HUX_KIND_NO_ENCODING = 19,
+    /* There are not as many core values as pass the parameters. */
+    HUX_KIND_NO_SLOTS = 20,
+    /* A memory has 2^32 bytes or more. */
+    HUX_KIND_TOO_LARGE = 21,
+    /* The values are refused, or what they are copied to: the number of the trap that this is. */
+    HUX_KIND_VALUE = 22,
+    /* A handle table has too many handles, or there was no memory for it: the number of a
+     * `HandleFault`. */
+    HUX_KIND_HANDLES = 23,
+    /* The allocator's answer `place` is refused: the number of the trap that this is. */
+    HUX_KIND_ANSWER = 24,
+    /* There are more or fewer answers than requests: `place` is how many answers there are. */
+    HUX_KIND_ANSWERS = 25,
+    /* A path leads to no type, or the function has no result. */
+    HUX_KIND_NO_PART = 26
+};
+
+/* What a type is, as CanonicalABI.md despecializes it: `HuxNode.sort` has its number. */
+enum HuxSort {
+    HUX_SORT_BOOL = 0,
+    /* A number with a sign. */
+    HUX_SORT_SIGNED = 1,
+    /* A number without a sign. */
+    HUX_SORT_UNSIGNED = 2,
+    HUX_SORT_CHAR = 3,
+    /* `count` labels. */
+    HUX_SORT_FLAGS = 4,
+    HUX_SORT_STRING = 5,
+    /* A list, whose elements lie elsewhere: part 0 is one. */
+    HUX_SORT_LIST = 6,
+    /* `count` elements in place: part 0 is the first one. */
+    HUX_SORT_FIXED_LIST = 7,
+    /* The `count` fields of a record or a tuple: part k is field k. */
+    HUX_SORT_FIELDS = 8,
+    /* The `count` cases of a variant, an enum, an option or a result: part k is what case k
+     * carries. */
+    HUX_SORT_CASES = 9,
+    HUX_SORT_OWN = 10,
+    HUX_SORT_BORROW = 11
+};
+
+/* How a command ended, and how many bytes it printed. */
+typedef struct HuxEnd {
+    /* The number of a `HuxKind`: HUX_KIND_FINE where a command ran, else HUX_KIND_OUTSIDE,
+     * HUX_KIND_NO_TEXT or HUX_KIND_MEMORY. */
+    uint32_t kind;
+    /* The exit status of the command that ran: 0 done, 1 refused, 2 usage, 3 trap, 4 input or
+     * output; else 0. */
+    uint32_t status;
+    /* How many bytes it printed on standard output. */
+    size_t out;
+    /* How many bytes it printed on standard error. */
+    size_t err;
+} HuxEnd;
+
+/* A part of the bytes that are handed over with it: where it begins, from 0, and how many bytes
+ * it has. */
+typedef struct HuxSpan {
+    size_t at;
+    size_t length;
+} HuxSpan;
+
+/* An answer in numbers: what is wrong, and where. Files, sections, items and bytes count from 0;
+ * a field that its kind does not speak of is 0. */
+typedef struct HuxVerdict {
+    /* The number of a `HuxKind`. */
+    uint32_t kind;
+    /* The number of the reason, as docs/RULES.md lists them. */
+    uint32_t reason;
+    /* Which file, of several. */
+    size_t file;
+    size_t place;
+    size_t item;
+} HuxVerdict;
+
+/* A type in memory and in core values (CanonicalABI.md, "Alignment", "Element Size" and
+ * "Flattening"). */
+typedef struct HuxNode {
+    /* The number of a `HuxSort`. */
+    uint32_t sort;
+    /* Where it stands in the type that holds it, in bytes; 0 where it is the element of a list. */
+    uint32_t offset;
+    /* Its size, in bytes. */
+    uint32_t size;
+    /* Its alignment, in bytes. */
+    uint32_t align;
+    /* How many core values pass it. */
+    uint32_t width;
+    /* The size of the number of a case, in bytes; 0 where there are no cases. */
+    uint32_t discriminant;
+    /* How many labels, elements, fields or cases it has. */
+    size_t count;
+} HuxNode;
+
+/* What the allocator of a callee is asked for (CanonicalABI.md, `realloc`). */
+typedef struct HuxRequest {
+    /* 1 where its old pointer is the answer to the request just before it; else 0, and it has
+     * none. */
+    uint32_t chained;
+    /* How many bytes stand at the old pointer; 0 where there is none. */
+    uint32_t old_size;
+    /* The alignment, in bytes. */
+    uint32_t align;
+    /* How many bytes are asked for. */
+    uint32_t size;
+} HuxRequest;
+
+/* The parameters of a call: which function, and how strings are encoded on both sides. */
+typedef struct HuxCall {
+    /* The index of the function among those of the component, from 0. */
+    uint32_t func;
+    /* How strings are encoded where the values come from: 0 UTF-8, 1 UTF-16, 2 latin1+utf16. */
+    uint32_t source;
+    /* How they are encoded where the values go: 0 UTF-8, 1 UTF-16. */
+    uint32_t target;
+    /* The place of the component that they go to, from 0: handles of its own resources that are
+     * lent to it are handed over as their representations. */
+    uint32_t callee;
+    /* The number of the call, from which the callee's borrowed handles are counted. */
+    uint32_t call;
+} HuxCall;
+
+/* A handle of a table (CanonicalABI.md, "Resource State"). */
+typedef struct HuxHandle {
+    /* Which resource of its component: the number counts its resources from 0. */
+    uint64_t number;
+    /* Which resource of all that were made, so that two handles of one are told from others. */
+    uint64_t serial;
+    /* How many calls have borrowed the handle and have not ended yet. */
+    uint64_t lends;
+    /* Which component defines the resource, from 0; in a component on its own 0. */
+    uint32_t component;
+    /* The representation. */
+    uint32_t rep;
+    /* 1 where the handle owns the resource, 0 where it was borrowed. */
+    uint32_t owned;
+    /* The call that borrowed it, where it was borrowed. */
+    uint32_t call;
+} HuxHandle;
+
+/* A file that is handed over: the parts of the bytes that are its name and what stands in it. */
+typedef struct HuxFile {
+    HuxSpan name;
+    HuxSpan bytes;
+} HuxFile;
+
+/* How many bytes there are to be written of each text. */
+typedef struct HuxWanted {
+    size_t out;
+    size_t err;
+} HuxWanted;
+
+/* Tells what passing the parameters of a call asks the callee's allocator for, in order, before
+ * anything is stored (docs/DEFINITIONS.md; the order and the sizes are this project's own).
+ *
+ * `component` are the bytes of a component file with the called function; `slots` are the core
+ * values with which the caller passes the parameters, of 32 bits in the low half, `memory` is
+ * its memory, and `handles` its handle table, under the indices from 1 on.
+ *
+ * The answer is HUX_KIND_FINE, and `requests` has as many requests as there is room for;
+ * `wanted` says how many there are. Else nothing is written but a `wanted` of 0. */
+HuxVerdict hux_requests(
+    const uint8_t *component,
+    size_t component_length,
+    const HuxCall *call,
+    const uint8_t *memory,
+    size_t memory_length,
+    const uint64_t *slots,
+    size_t slots_length,
+    const HuxHandle *handles,
+    size_t handles_length,
+    HuxRequest *requests,
+    size_t requests_length,
+    size_t *wanted);
+
+/* Copies the parameters of a call from the memory of its caller to that of its callee
+ * (CanonicalABI.md, "Lifting and Lowering Values").
+ *
+ * `component` are the bytes of a component file with the called function; `slots` are the core
+ * values with which the caller passes the parameters, of 32 bits in the low half, `handles` its
+ * handle table, and `callee_handles` that of the callee, each under the indices from 1 on.
+ * `answers` are those of the callee's allocator to the requests of `hux_requests`.
+ *
+ * Where the answer is HUX_KIND_FINE, `callee_memory` and `callee_slots` have the values, and
+ * `numbers` the numbers that stand for their handles in the callee, in reading order: as many as
+ * there is room for, and `wanted` says how many there are. Else nothing is written but a
+ * `wanted` of 0. */
+HuxVerdict hux_copy(
+    const uint8_t *component,
+    size_t component_length,
+    const HuxCall *call,
+    const uint8_t *memory,
+    size_t memory_length,
+    const uint64_t *slots,
+    size_t slots_length,
+    const HuxHandle *handles,
+    size_t handles_length,
+    const HuxHandle *callee_handles,
+    size_t callee_handles_length,
+    const uint32_t *answers,
+    size_t answers_length,
+    uint8_t *callee_memory,
+    size_t callee_memory_length,
+    uint64_t *callee_slots,
+    size_t callee_slots_length,
+    uint32_t *numbers,
+    size_t numbers_length,
+    size_t *wanted);
+
+/* Checks the bytes of a component file, which may have shims: whether they are a valid component
+ * (Binary.md; Explainer.md, "Component Definitions"), of which all holds that its shims say.
+ *
+ * The answer is HUX_KIND_FINE; else the first fault, which `text` shows: as many of its bytes as
+ * there is room for are written, and `wanted` says how many it has. */
+HuxVerdict hux_check(
+    const uint8_t *bytes,
+    size_t bytes_length,
+    uint8_t *text,
+    size_t text_length,
+    size_t *wanted);
+
+/* Shows what the component of a file imports and exports, a line for each, in the order of its
+ * file: the text that `component_tool show` prints of a file without shims.
+ *
+ * The answer is HUX_KIND_FINE, and `text` has that text; else the first fault, which `text`
+ * shows. As many bytes of the text as there is room for are written, and `wanted` says how many
+ * it has. */
+HuxVerdict hux_show(
+    const uint8_t *bytes,
+    size_t bytes_length,
+    uint8_t *text,
+    size_t text_length,
+    size_t *wanted);
+
+/* Whether the component of a file fits the world of a full name, as `a:b/w`, of a WIT text.
+ *
+ * The answer is HUX_KIND_FINE; else the first fault, of the file, of the texts
+ * (HUX_KIND_NO_TEXT), of the WIT text, of its world, or of the component against that. `text`
+ * shows it: as many of its bytes as there is room for are written, and `wanted` says how many it
+ * has. */
+HuxVerdict hux_conform(
+    const uint8_t *bytes,
+    size_t bytes_length,
+    const uint8_t *wit,
+    size_t wit_length,
+    const uint8_t *world,
+    size_t world_length,
+    uint8_t *text,
+    size_t text_length,
+    size_t *wanted);
+
+/* Links the components of files, each a part of the bytes: each import to the only export of a
+ * file before that serves it.
+ *
+ * The answer is HUX_KIND_FINE, and `text` has a line for each import, which says what serves it:
+ * the number of its file, its name, ` <- `, and the same of the export. Else the answer is the
+ * first fault, of a part, of a file, or of a link, which `text` shows. As many bytes of the text
+ * as there is room for are written, and `wanted` says how many it has. */
+HuxVerdict hux_link(
+    const uint8_t *bytes,
+    size_t bytes_length,
+    const HuxSpan *files,
+    size_t files_length,
+    uint8_t *text,
+    size_t text_length,
+    size_t *wanted);
+
+/* Tells how a type lies in memory, and in core values (CanonicalABI.md, "Alignment", "Element
+ * Size" and "Flattening").
+ *
+ * `component` are the bytes of a component file, `func` the index of a function of it, from 0,
+ * and `way` 0 for the tuple of its parameters or 1 for its result. `path` leads from there to
+ * the type: a number of a part, from 0, one of a part of that, and so on; empty it leads to the
+ * whole.
+ *
+ * Where the answer is HUX_KIND_FINE, `node` has the type; else `node` stays. HUX_KIND_NO_PART
+ * comes where the function has no result, and where the path leads to no type. */
+HuxVerdict hux_layout(
+    const uint8_t *component,
+    size_t component_length,
+    uint32_t func,
+    uint32_t way,
+    const uint32_t *path,
+    size_t path_length,
+    HuxNode *node);
+
+/* Links the components of files, each a part of the bytes, and plays a script on them, another
+ * part (docs/COMMAND.md, "Scripts").
+ *
+ * The answer is HUX_KIND_FINE where each drive ended, HUX_KIND_TRAPPED where one trapped, and
+ * else HUX_KIND_STOPPED where one could not begin or reached its 1,000,000 moves; `out` has a
+ * line for each event. Where nothing is played, the answer is the first fault: of a part, a file
+ * or a link, or HUX_KIND_UNPLAYED, where the script is refused or the machine makes no set.
+ * `err` has a line of what went wrong. As many bytes as there is room for are written, and
+ * `wanted` says how many there are of each. */
+HuxVerdict hux_run(
+    const uint8_t *bytes,
+    size_t bytes_length,
+    const HuxSpan *files,
+    size_t files_length,
+    const HuxSpan *script,
+    uint8_t *out,
+    size_t out_length,
+    uint8_t *err,
+    size_t err_length,
+    HuxWanted *wanted);
+
+/* Runs a command of `component_tool` in process, over files that are handed over: its words,
+ * those behind the program's name, are parts of the bytes, and so are the names of the files and
+ * what stands in them (docs/COMMAND.md). No other file is there, and none is written.
+ *
+ * As many bytes of what is printed on standard output and standard error as there is room for
+ * are written into `out` and `err`, and the answer says how many there are of each. */
+HuxEnd hux_tool(
+    const uint8_t *bytes,
+    size_t bytes_length,
+    const HuxSpan *words,
+    size_t words_length,
+    const HuxFile *files,
+    size_t files_length,
+    uint8_t *out,
+    size_t out_length,
+    uint8_t *err,
+    size_t err_length);
+
+#ifdef __cplusplus
+}
+#endif
+
+#endif

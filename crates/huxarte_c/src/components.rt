@@ -1,0 +1,113 @@
+//! Components by the bytes of their files.
+
+ghost use Rattle.huxarte_c_commands.specs.Fitting.{IsFitVerdict};
+ghost use Rattle.huxarte_c_commands.specs.Linking.{IsLinkVerdict};
+ghost use Rattle.huxarte_c_commands.specs.Showing.{IsShownVerdict};
+ghost use Rattle.huxarte_c_components.specs.Laying.{IsLayoutVerdict};
+ghost use Rattle.huxarte_c_components.specs.Sound.{IsFileVerdict};
+ghost use Rattle.huxarte_c_parts.specs.Texts.{IsText};
+
+use huxarte_c_commands::{conform, link_files, show};
+use huxarte_c_components::{check, lay};
+use huxarte_c_nodes::HuxNode;
+use huxarte_c_parts::{HuxSpan, HuxVerdict};
+use std::alloc::Global;
+
+/// Checks the bytes of a component file, which may have shims: whether they are a valid component
+/// (Binary.md; Explainer.md, "Component Definitions"), of which all holds that its shims say.
+///
+/// The answer is `Fine`; else the first fault, which `text` shows: as many of its bytes as there is
+/// room for are written, and `wanted` says how many it has.
+#[unsafe(no_mangle)]
+pub extern "C" fn hux_check(
+    alloc: Global,
+    bytes: &[u8],
+    text: &mut [u8],
+    wanted: &mut usize,
+) -> HuxVerdict
+    ensures verdict { IsFileVerdict bytes.now result }
+    ensures text { IsText text.old wanted.new text.new }
+{
+    check(alloc, bytes, text, wanted)
+}
+
+/// Shows what the component of a file imports and exports, a line for each, in the order of its
+/// file: the text that `component_tool show` prints of a file without shims.
+///
+/// The answer is `Fine`, and `text` has that text; else the first fault, which `text` shows. As
+/// many bytes of the text as there is room for are written, and `wanted` says how many it has.
+#[unsafe(no_mangle)]
+pub extern "C" fn hux_show(
+    alloc: Global,
+    bytes: &[u8],
+    text: &mut [u8],
+    wanted: &mut usize,
+) -> HuxVerdict
+    ensures { IsShownVerdict bytes.now result text.old wanted.new text.new }
+{
+    show(alloc, bytes, text, wanted)
+}
+
+/// Whether the component of a file fits the world of a full name, as `a:b/w`, of a WIT text.
+///
+/// The answer is `Fine`; else the first fault, of the file, of the texts (`NoText`), of the WIT
+/// text, of its world, or of the component against that. `text` shows it: as many of its bytes as
+/// there is room for are written, and `wanted` says how many it has.
+#[unsafe(no_mangle)]
+pub extern "C" fn hux_conform(
+    alloc: Global,
+    bytes: &[u8],
+    wit: &[u8],
+    world: &[u8],
+    text: &mut [u8],
+    wanted: &mut usize,
+) -> HuxVerdict
+    ensures verdict { IsFitVerdict bytes.now wit.now world.now result }
+    ensures text { IsText text.old wanted.new text.new }
+{
+    conform(alloc, bytes, wit, world, text, wanted)
+}
+
+/// Links the components of files, each a part of the bytes: each import to the only export of a
+/// file before that serves it.
+///
+/// The answer is `Fine`, and `text` has a line for each import, which says what serves it: the
+/// number of its file, its name, ` <- `, and the same of the export. Else the answer is the first
+/// fault, of a part, of a file, or of a link, which `text` shows. As many bytes of the text as
+/// there is room for are written, and `wanted` says how many it has.
+#[unsafe(no_mangle)]
+pub extern "C" fn hux_link(
+    alloc: Global,
+    bytes: &[u8],
+    files: &[HuxSpan],
+    text: &mut [u8],
+    wanted: &mut usize,
+) -> HuxVerdict
+    ensures verdict { IsLinkVerdict bytes.now files.now result }
+    ensures text { IsText text.old wanted.new text.new }
+{
+    link_files(alloc, bytes, files, text, wanted)
+}
+
+/// Tells how a type lies in memory, and in core values (CanonicalABI.md, "Alignment", "Element
+/// Size" and "Flattening").
+///
+/// `component` are the bytes of a component file, `func` the index of a function of it, from 0, and
+/// `way` 0 for the tuple of its parameters or 1 for its result. `path` leads from there to the
+/// type: a number of a part, from 0, one of a part of that, and so on; empty it leads to the whole.
+///
+/// Where the answer is `Fine`, `node` has the type; else `node` stays. `NoPart` comes where the
+/// function has no result, and where the path leads to no type.
+#[unsafe(no_mangle)]
+pub extern "C" fn hux_layout(
+    alloc: Global,
+    component: &[u8],
+    func: u32,
+    way: u32,
+    path: &[u32],
+    node: &mut HuxNode,
+) -> HuxVerdict
+    ensures { IsLayoutVerdict component.now func way path.now result node.old node.new }
+{
+    lay(alloc, component, func, way, path, node)
+}

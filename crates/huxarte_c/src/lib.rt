@@ -1,0 +1,7 @@
+//! What C calls: functions over bytes, numbers and plain structs (include/huxarte.h).
+#![tactic(auto)]
+
+mod calls;
+mod components;
+mod playing;
+mod tool;
