@@ -367,6 +367,23 @@ HuxVerdict hux_layout(
     size_t path_length,
     HuxNode *node);
 
+/* Runs a command of `hux` in process, over files that are handed over, as `hux_tool` does one of
+ * `component_tool`. The file of the name `-` is standard input.
+ *
+ * No file is written: where a command is to write one, as `hux stub -o` and `hux live --record`,
+ * it ends with status 4, as where a file cannot be written. */
+HuxEnd hux_main(
+    const uint8_t *bytes,
+    size_t bytes_length,
+    const HuxSpan *words,
+    size_t words_length,
+    const HuxFile *files,
+    size_t files_length,
+    uint8_t *out,
+    size_t out_length,
+    uint8_t *err,
+    size_t err_length);
+
 /* Links the components of files, each a part of the bytes, and plays a script on them, another
  * part (docs/COMMAND.md, "Scripts").
  *

@@ -3,5 +3,7 @@
 
 mod calls;
 mod components;
+mod hux;
 mod playing;
+mod streams;
 mod tool;

@@ -1,4 +1,5 @@
-//! `component_tool play` in process: play PROVIDER USER SCRIPT plays the script on the two files.
+//! `component_tool play` and `hux play --values` in process: play PROVIDER USER SCRIPT plays the
+//! script on the two files by each.
 
 mod heap;
 
@@ -27,8 +28,35 @@ struct HuxEnd {
     err: usize,
 }
 
+/// A command in process: bytes, words and files that are parts of them, and two buffers.
+type Call = unsafe extern "C" fn(
+    *const u8,
+    usize,
+    *const HuxSpan,
+    usize,
+    *const HuxFile,
+    usize,
+    *mut u8,
+    usize,
+    *mut u8,
+    usize,
+) -> HuxEnd;
+
 unsafe extern "C" {
     fn hux_tool(
+        bytes: *const u8,
+        bytes_length: usize,
+        words: *const HuxSpan,
+        words_length: usize,
+        files: *const HuxFile,
+        files_length: usize,
+        out: *mut u8,
+        out_length: usize,
+        err: *mut u8,
+        err_length: usize,
+    ) -> HuxEnd;
+
+    fn hux_main(
         bytes: *const u8,
         bytes_length: usize,
         words: *const HuxSpan,
@@ -68,11 +96,11 @@ impl Given {
     }
 
     /// Runs the command with room for so many bytes: how it ended, and what it printed.
-    fn run(&self, room: usize) -> (HuxEnd, Vec<u8>, Vec<u8>) {
+    fn run(&self, call: Call, room: usize) -> (HuxEnd, Vec<u8>, Vec<u8>) {
         let (mut out, mut err) = (vec![0; room], vec![0; room]);
         // What is read and written are slices of this function, which overlap nowhere.
         let end = unsafe {
-            hux_tool(
+            call(
                 self.bytes.as_ptr(),
                 self.bytes.len(),
                 self.words.as_ptr(),
@@ -86,7 +114,7 @@ impl Given {
             )
         };
         if end.out > room || end.err > room {
-            return self.run(end.out.max(end.err));
+            return self.run(call, end.out.max(end.err));
         }
         out.truncate(end.out);
         err.truncate(end.err);
@@ -94,23 +122,32 @@ impl Given {
     }
 }
 
-fn main() -> ExitCode {
-    let names: Vec<String> = env::args().skip(1).collect();
-    let [provider, user, script] = names.as_slice() else {
-        return ExitCode::from(2);
+/// Runs the command with these words, and prints what it prints. Answers its status.
+fn play(call: Call, words: &[&str], names: &[String]) -> std::io::Result<u32> {
+    let [provider, user, script] = names else {
+        return Ok(2);
     };
     let mut given = Given::default();
-    for word in ["play", "--script", script, provider, user] {
+    for word in words.iter().chain(&["--script", script, provider, user]) {
         given.word(word);
     }
-    for name in &names {
-        match fs::read(name) {
-            Ok(bytes) => given.file(name, &bytes),
+    for name in names {
+        given.file(name, &fs::read(name)?);
+    }
+    let (end, out, err) = given.run(call, 16);
+    print!("{}", String::from_utf8_lossy(&out));
+    eprint!("{}", String::from_utf8_lossy(&err));
+    Ok(end.status)
+}
+
+fn main() -> ExitCode {
+    let names: Vec<String> = env::args().skip(1).collect();
+    let mut worst = 0;
+    for (call, words) in [(hux_tool as Call, &["play"][..]), (hux_main, &["play", "--values"])] {
+        match play(call, words, &names) {
+            Ok(status) => worst = worst.max(status),
             Err(_) => return ExitCode::from(4),
         }
     }
-    let (end, out, err) = given.run(16);
-    print!("{}", String::from_utf8_lossy(&out));
-    eprint!("{}", String::from_utf8_lossy(&err));
-    ExitCode::from(end.status as u8)
+    ExitCode::from(worst as u8)
 }
