@@ -30,7 +30,7 @@ int main(int count, char **words) {
     static uint8_t file[MOST], mutant[MOST];
     uint8_t text[ROOM];
     uint64_t state = 88172645463325252u;
-    long calls, valid = 0, early = 0;
+    long calls, valid = 0, early = 0, late;
     size_t length, wanted;
     FILE *source = count == 3 ? fopen(words[1], "rb") : NULL;
     clock_t begun;
@@ -53,8 +53,8 @@ int main(int count, char **words) {
             early = peak_in_kib();
         }
     }
+    late = peak_in_kib();
     printf("%ld of %ld valid, %.0f calls a second, %ld KiB after a tenth, %ld KiB at the end\n",
-           valid, calls, (double)calls * CLOCKS_PER_SEC / (double)(clock() - begun + 1), early,
-           peak_in_kib());
-    return early != peak_in_kib();
+           valid, calls, (double)calls * CLOCKS_PER_SEC / (double)(clock() - begun + 1), early, late);
+    return early != late;
 }
