@@ -15,11 +15,10 @@
  * - No call is made from a signal handler, or from a forked child of a process with threads.
  *
  * A text is written as far as its buffer has room, without a zero behind it; the rest of the buffer
- * stays as it was. The number of bytes that the text has is told, so that where it is more than the
+ * stays as it was. The caller gets the number of bytes that the text has: where it is more than the
  * room, the same call with that room answers the whole text.
  *
- * libhuxarte_c.a has these functions. The commands of hux are not among them: hux is a program of
- * its own.
+ * libhuxarte_c.a, which `rt lib` makes in crates/huxarte_c, has these functions.
  *
  * Written by checks/header from the exports of crates/huxarte_c. */
 #ifndef HUXARTE_H
