@@ -114,7 +114,7 @@ fn play_set(
     }
 }
 
-/// The same of what files are read as.
+/// Links what files are read as, and plays a script on it.
 fn play_read(
     alloc: Global,
     files: &[Shimmed],
@@ -132,7 +132,7 @@ fn play_read(
     }
 }
 
-/// The same of files.
+/// Links the components of files, and plays a script on them.
 fn play_files(
     alloc: Global,
     files: &[&[u8]],
@@ -148,7 +148,7 @@ fn play_files(
     }
 }
 
-/// The same of files that are parts of some bytes.
+/// Links the components of files that are parts of some bytes, and plays a script on them.
 fn play_spans(
     alloc: Global,
     bytes: &[u8],
@@ -166,7 +166,7 @@ fn play_spans(
     }
 }
 
-/// The same where the script is a part of the bytes, too.
+/// Plays a script that is a part of the bytes, as its files are.
 fn play_parts(
     alloc: Global,
     bytes: &[u8],

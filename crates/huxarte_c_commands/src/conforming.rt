@@ -136,7 +136,7 @@ fn conform_one(
     }
 }
 
-/// The same of the component of a file.
+/// Whether the component of a file fits the world of a full name of a text.
 fn conform_of(alloc: Global, bytes: &[u8], wit: &[u8], world: &[u8]) -> Result<(), FitRefusal>
     ensures fits { OnOk result (Fits bytes.now wit.now world.now) }
     ensures refused { IfErr result (IsUnfitRefusal bytes.now wit.now world.now) }

@@ -81,7 +81,7 @@ fn plan_of(alloc: Global, components: Vec<Checked<'_>>) -> Result<Vec<u8>, LinkR
     }
 }
 
-/// The same of what files are read as.
+/// The lines of the plan by which the components link that files are read as.
 fn plan_of_read(alloc: Global, files: &[Shimmed]) -> Result<Vec<u8>, LinkRefusal>
     ensures linked { (bytes : List (List ℕ)) → AreRead bytes (map reading_of files.now)
         → OnOk result (AreLinked bytes) }
@@ -94,7 +94,7 @@ fn plan_of_read(alloc: Global, files: &[Shimmed]) -> Result<Vec<u8>, LinkRefusal
     }
 }
 
-/// The same of files.
+/// The lines of the plan by which the components of files link.
 fn plan(alloc: Global, files: &[&[u8]]) -> Result<Vec<u8>, LinkRefusal>
     ensures linked { OnOk result (AreLinked (map (λ f. f.now) files.now)) }
     ensures refused { IfErr result (IsLinkRefusal (map (λ f. f.now) files.now)) }

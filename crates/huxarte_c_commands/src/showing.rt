@@ -69,7 +69,7 @@ fn shown_one(alloc: Global, component: Checked<'_>) -> Result<String, ShowRefusa
     }
 }
 
-/// The same of the component of a file.
+/// The text that shows what the component of a file imports and exports.
 fn shown_of(alloc: Global, bytes: &[u8]) -> Result<String, ShowRefusal>
     ensures shown { IfOk result (λ text. IsShown bytes.now (string_bytes text)) }
     ensures refused { IfErr result (IsShowRefusal bytes.now) }

@@ -1,4 +1,4 @@
-//! Why nothing is told of a component, or a call of it is refused.
+//! Why a call about a component is refused.
 
 ghost use Rattle.std.specs.Prelude.{◌≡◌};
 ghost use Rattle.huxarte_c_components.specs.Faults.{of_component};
@@ -10,7 +10,7 @@ use huxarte_c_calls::CallFault;
 use huxarte_c_parts::{HuxKind, HuxVerdict};
 use std::alloc::AllocError;
 
-/// Why nothing is told of a component, or a call of it is refused.
+/// Why a call about a component is refused.
 #[derive(Clone, Copy)]
 pub enum ComponentFault {
     /// The file stands for no valid component, or not for what its shims say.

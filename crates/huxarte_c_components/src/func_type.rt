@@ -16,7 +16,7 @@ use cm_types_arena::Placed;
 use cm_validate_entries::FuncEntry;
 use cm_validate_spaces::IndexSpaces;
 
-/// Why no type of a function is told.
+/// Why a function has no type to look at.
 #[derive(Clone, Copy)]
 pub(crate) enum FuncFault {
     /// No function has the index.
@@ -26,7 +26,7 @@ pub(crate) enum FuncFault {
 }
 
 impl FuncFault {
-    /// What is told of it.
+    /// The fault under which C knows it.
     pub(crate) fn told(self) -> ComponentFault
         ensures { result ≡ told_of self }
     {

@@ -16,7 +16,7 @@ use huxarte_c_nodes::{HuxNode, node_by};
 use huxarte_c_parts::HuxVerdict;
 use std::alloc::Global;
 
-/// What is told of the type that a path leads to from a function.
+/// The numbers of the type that a path leads to from a function.
 fn node_from(alloc: Global, func: &Func, way: u32, path: &[u32]) -> Result<HuxNode, ComponentFault>
     ensures found { IfOk result (λ n. node_by (func_of func.now) way path.now ≡ Some n) }
     ensures refused { IfErr result (IsNoNode (func_of func.now) way path.now) }
@@ -27,7 +27,7 @@ fn node_from(alloc: Global, func: &Func, way: u32, path: &[u32]) -> Result<HuxNo
     }
 }
 
-/// The same from the function of an index of a component.
+/// The numbers of the type that a path leads to from the function of an index of a component.
 fn node_in(
     alloc: Global,
     component: &Checked<'_>,
@@ -45,7 +45,7 @@ fn node_in(
     }
 }
 
-/// The same of the component of a file.
+/// The numbers of the type that a path leads to from a function of the component of a file.
 fn node_of(
     alloc: Global,
     bytes: &[u8],
