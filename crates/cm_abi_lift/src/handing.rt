@@ -207,6 +207,9 @@ pub fn hand_over(table: &mut Table, met: &[MetHandle], handed: &mut Handed) -> R
     ensures unchanged { OnErr result (table.new ≡ table.old) }
 {
     handed.clear();
+    if met.is_empty() {
+        return Ok(());
+    }
     for i in 0..met.len() {
         if let Err(fault) = handed.add(table, met[i]) {
             handed.take_back(table, &met[..i]);

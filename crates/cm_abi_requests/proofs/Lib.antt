@@ -15,3 +15,4 @@ pub mod StageLaws
 pub mod StageSeen
 mod PlaceLaws
 mod FineLaws
+mod FewLaws

@@ -7,10 +7,10 @@ use Rattle.cm_abi_model.specs.declared.record.PartRecord.{PartRecord}
 use Rattle.cm_abi_model.specs.declared.request.Request.{Request}
 use Rattle.cm_abi_model.specs.Answered.{IsAllAnswered, IsAnswered, Requesting, all_requests, next_of, with_last, with_old}
 use Rattle.cm_abi_model.specs.Answering.{begins_part, places_of}
-use Rattle.cm_abi_model.specs.RecordRequests.{AreAskable, IsAskable, kind_sizes, record_requests, requests_for}
+use Rattle.cm_abi_model.specs.RecordRequests.{AreAskable, IsAskable, first_request, kind_sizes, record_requests, requests_for}
 use Rattle.cm_abi_model.specs.Requests.{chain, growths}
 use Rattle.cm_abi_requests.specs.Stages.{AreSizesOfFirst, IsAtStage, IsStage}
-use Rattle.cm_abi_requests.proofs.StageLaws.{IsSplit, Stage, asked_by, chain_length, chain_place, kept_last, kept_more, kind_few, next_aligned, next_is, next_none, next_record, places_both, record_few, requests_both, seen_as, stage_begins, stage_there}
+use Rattle.cm_abi_requests.proofs.StageLaws.{IsSplit, Stage, asked_by, chain_length, chain_place, kept_last, kept_more, kind_few, next_aligned, next_is, next_none, places_both, requests_both, seen_as, stage_begins, stage_there}
 
 -- ---- lists
 
@@ -225,6 +225,25 @@ module _ (s : Stage) (sizes : List ℕ) (room space : ℕ) (at : IsAtStage s.rec
 
   pub more_at : (r : PartRecord) → slice_get s.records (length s.places) ≡ Some r → s.stage + 1 < length sizes → IsAtStage s.records s.source s.target (length s.places) (s.stage + 1) sizes room space
   more_at r is lt = record { askable = at.askable; few = at.few; within = stage_up r is lt; next = at.next; room = at.room; space = at.space }
+
+-- ---- a part of one size
+
+module _ (s : Stage) (size room space : ℕ) (at : IsAtStage s.records s.source s.target (length s.places) s.stage (size ∷ []) room space) where
+  -- the next request is the first one for it
+  pub one_next : (answers : List ℕ) (r : PartRecord) → IsAnswered (seen_as s) answers → slice_get s.records (length s.places) ≡ Some r
+      → next_of (asked_by s) answers ≡ Some (first_request r.align size, 0)
+  one_next answers r h is = by s.stage refl
+    where
+      by : (n : ℕ) → s.stage ≡ n → next_of (asked_by s) answers ≡ Some (first_request r.align size, 0)
+      by zero e =
+          sym (next_seen s (size ∷ []) room space at answers r h is)
+          ∙ ap (λ n. option_map (with_last s.last) (slice_get (chain r.align (size ∷ [])) n)) e
+      by (suc k) e = absurd (never_past s (size ∷ []) room space at answers r h is (ap (slice_get (chain r.align (size ∷ []))) e))
+
+  pub one_aligned : (r : PartRecord) → slice_get s.records (length s.places) ≡ Some r → 0 < r.align
+  one_aligned r is =
+      next_aligned s.source s.target r 0 (first_request r.align size) (askable_left s.records (length s.places) r at.askable is)
+      (ap (λ xs. slice_get (chain r.align xs) 0) (sym (sizes_of s (size ∷ []) room space at r is)))
 
 -- a part more is done
 pub part_done : (records : List PartRecord) (source target : StringEncoding) (done behind stage : ℕ) (sizes next : List ℕ) (room space full : ℕ) (r : PartRecord)

@@ -10,7 +10,7 @@ ghost use Rattle.cm_abi_model.specs.Answered.{with_last};
 ghost use Rattle.cm_abi_model.specs.Answering.{answer_fault};
 ghost use Rattle.cm_abi_model.specs.Overlap.{AreDisjoint};
 ghost use Rattle.cm_abi_model.specs.Placing.{regions_at};
-ghost use Rattle.cm_abi_model.specs.RecordRequests.{AreAskable};
+ghost use Rattle.cm_abi_model.specs.RecordRequests.{AreAskable, first_request};
 ghost use Rattle.cm_abi_requests.specs.Sizes.{sizes_seen};
 ghost use Rattle.cm_abi_requests.specs.Stages.{AreSizesOfFirst};
 
@@ -84,6 +84,22 @@ fn with_old(request: Request, last: u32) -> (Request, u32)
 {
     let old = if request.chained { last } else { 0 };
     (request, old)
+}
+
+/// Looks at the answer to a first request for so many bytes, as `check_answer` does.
+fn check_first(align: u32, size: u32, at: u32, memory_length: usize) -> Result<(), AbiFault>
+    requires aligned { 0 < align }
+    ensures ok { OnOk result (answer_fault memory_length (first_request align size) at ≡ None) }
+    ensures err { IfErr result (λ e.
+        answer_fault memory_length (first_request align size) at ≡ Some e) }
+{
+    if at % align != 0 {
+        return Err(AbiFault::Misaligned);
+    }
+    if u64::from(at) + u64::from(size) > memory_length as u64 {
+        return Err(AbiFault::PointerBounds);
+    }
+    Ok(())
 }
 
 impl PartRequests {
@@ -192,16 +208,37 @@ impl PartRequests {
         ensures unchanged { OnErr result (self.new ≡ self.old) }
         ensures only { OnlyAnswered self.old self.new }
     {
-        let Some((request, _)) = self.next_request() else {
-            unreachable!()
-        };
-        match check_answer(request, at, memory_length) {
+        match self.check_next(at, memory_length) {
             Ok(()) => {
                 self.keep(at);
                 Ok(())
             }
             Err(fault) => Err(fault),
         }
+    }
+
+    /// Looks at the answer to the next request, which there is, as `check_answer` does. The request
+    /// for a part of one size is the first and the last for it, and is not made.
+    fn check_next(&self, at: u32, memory_length: usize) -> Result<(), AbiFault>
+        requires answered { (answers : List ℕ) × IsAnswered self.now answers
+            × IsSome (next_of (all_requests self.now) answers) }
+        ensures fine { OnOk result ((answers : List ℕ) → IsAnswered self.now answers
+            → IsSomeAnd (next_of (all_requests self.now) answers)
+            (λ r. answer_fault memory_length r.0 at ≡ None)) }
+        ensures fault { IfErr result (λ e. (answers : List ℕ) → IsAnswered self.now answers
+            → IsSomeAnd (next_of (all_requests self.now) answers)
+            (λ r. answer_fault memory_length r.0 at ≡ Some e)) }
+    {
+        if let Sizes::One(size) = self.sizes {
+            let Some(part) = part_at(&self.records, self.places.len()) else {
+                unreachable!()
+            };
+            return check_first(part.align, size, at, memory_length);
+        }
+        let Some((request, _)) = self.next_request() else {
+            unreachable!()
+        };
+        check_answer(request, at, memory_length)
     }
 
     /// Keeps the answer to the next request, which there is.
@@ -261,6 +298,9 @@ impl PartRequests {
             ↔ AreDisjoint (regions_at self.old.records self.old.places) }
         ensures same { self.new ≡ self.old }
     {
+        if self.records.len() < 2 {
+            return true;
+        }
         put_regions(&self.records, &self.places, &mut self.regions);
         let apart = are_disjoint(&mut self.regions);
         self.regions.clear();
