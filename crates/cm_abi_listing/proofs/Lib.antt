@@ -1,0 +1,6 @@
+mod FormLemmas
+mod ShapeLemmas
+mod MakingLemmas
+mod HoldingLemmas
+mod PutMakingLemmas
+mod SlotMakingLemmas

@@ -1,0 +1,200 @@
+-- The lists at the places of what a type holds.
+use Rattle.std.proofs.Common.{◌≡◌, ℕ, zero, suc, ◌+◌, ◌<◌, ◌≤◌, List, [], ◌∷◌, ◌++◌, append_assoc, append-nil, drop, get_or, length, map, take, refl, sym, ap, ◌∙◌, arith}
+use Rattle.std.specs.List.{AllByRecursion}
+use Rattle.std.specs.declared.alloc.Global.{Global}
+use Rattle.std.specs.declared.rc.Rc.{Rc}
+use Rattle.std.specs.declared.vec.Vec.{Vec}
+use Rattle.std.proofs.lemmas.List.{drop_more, get_or-map, get_or-take, length-map, length-take-le, map-append, take_more}
+use Rattle.std.proofs.Math.ListN.{get_or-map as get_or-map_so}
+use Rattle.cm_types.specs.Types.{Ty, Fields, Cases, bool, signed, unsigned, char, string, list, fixed_list, fields, cases, flags, own, borrow, no_fields, field, no_cases, plain, carrying, tuple_type}
+use Rattle.cm_layout.specs.Shapes.{LayoutTy, Shape, layout_at, layout_of_fields_at, parts_at, parts_from, payloads_from, payloads_of, shape_of_type}
+use Rattle.cm_layout.specs.Alignment.{align_to}
+use Rattle.cm_layout.specs.Sizes.{align_of, size_of}
+use Rattle.cm_types_arena.specs.Arena.{field_types, parts_in, payload_types}
+use Rattle.cm_types_arena.specs.Replaced.{Standing, replaced, replaced_cases, replaced_fields}
+use Rattle.cm_types_arena.specs.TypeDefs.{type_at}
+use Rattle.cm_layout_placed.specs.Placed.{at_place, types_by}
+use Rattle.cm_abi_listing.specs.Held.{items_at, items_of, part_shapes, payload_shapes, shapes_in}
+use Rattle.cm_lemmas.proofs.Lists.{drop_past, take_all}
+
+-- ---- the shapes that a type holds are those of the types that it holds
+
+fields_held : (fs : Fields) (at : ℕ) → part_shapes (parts_from (parts_at fs at)) ≡ map shape_of_type (field_types fs)
+fields_held no_fields at = refl
+fields_held (field l t fs) at = ap (λ xs. shape_of_type t ∷ xs) (fields_held fs (align_to (align_of t) at + size_of t))
+
+payloads_held : (cs : Cases) → payload_shapes (payloads_from (payloads_of cs)) ≡ map shape_of_type (payload_types cs)
+payloads_held no_cases = refl
+payloads_held (plain l cs) = payloads_held cs
+payloads_held (carrying l t cs) = ap (λ xs. shape_of_type t ∷ xs) (payloads_held cs)
+
+pub shapes_held : (t : Ty) → shapes_in (shape_of_type t) ≡ map shape_of_type (parts_in t)
+shapes_held bool = refl
+shapes_held (signed w) = refl
+shapes_held (unsigned w) = refl
+shapes_held char = refl
+shapes_held string = refl
+shapes_held (list t) = refl
+shapes_held (fixed_list t n) = refl
+shapes_held (fields k fs) = fields_held fs 0
+shapes_held (cases k cs) = payloads_held cs
+shapes_held (flags ls) = refl
+shapes_held (own r) = refl
+shapes_held (borrow r) = refl
+
+-- ---- lists that are gathered
+
+pub all_at : (P : ℕ → Type 0) (ps : List ℕ) (i : ℕ) → i < length ps → AllByRecursion P ps → P (get_or ps i 0)
+all_at P [] i lt h = absurd (omega (arith, lt))
+all_at P (p ∷ ps) zero lt h = h.0
+all_at P (p ∷ ps) (suc i) lt h = all_at P ps i (omega (arith, lt)) h.1
+
+module _ {A : Type 0} where
+  items_pushed : (xs : List (Rc (Vec A Global) Global)) (c : Rc (Vec A Global) Global) → items_of (xs ++ c ∷ []) ≡ items_of xs ++ c.value.items ∷ []
+  items_pushed [] c = refl
+  items_pushed (x ∷ xs) c = ap (λ ls. x.value.items ∷ ls) (items_pushed xs c)
+
+  items_there : (cs : List (Rc (Vec A Global) Global)) (n : ℕ) (c : Rc (Vec A Global) Global) → n < length cs → c ≡ get_or cs n c → c.value.items ≡ items_at (items_of cs) n
+  items_there [] n c lt is = absurd (omega (arith, lt))
+  items_there (d ∷ cs) zero c lt is = ap (λ (l : Rc (Vec A Global) Global). l.value.items) is
+  items_there (d ∷ cs) (suc n) c lt is = items_there cs n c (omega (arith, lt)) is
+
+  pub gather_next : (lists : List (Rc (Vec A Global) Global)) (ps : List ℕ) (i : ℕ) (x y : Rc (Vec A Global) Global) (front all : List (Rc (Vec A Global) Global)) → i < length ps → get_or ps i 0 < length lists
+      → x ≡ get_or lists (get_or ps i 0) x → y.value ≡ x.value → all ≡ front ++ y ∷ []
+      → items_of all ++ map (items_at (items_of lists)) (drop (i + 1) ps) ≡ items_of front ++ map (items_at (items_of lists)) (drop i ps)
+  gather_next lists ps i x y front all lt there is copy grown =
+      let rest = map (items_at (items_of lists)) (drop (i + 1) ps) in
+      ap (λ xs. items_of xs ++ rest) grown
+      ∙ ap (λ xs. xs ++ rest) (items_pushed front y)
+      ∙ append_assoc (items_of front) (y.value.items ∷ []) rest
+      ∙ ap (λ d. items_of front ++ d ∷ rest) (ap (λ (v : Vec A Global). v.items) copy ∙ items_there lists (get_or ps i 0) x there is)
+      ∙ ap (λ qs. items_of front ++ map (items_at (items_of lists)) qs) (sym (drop_more ps i 0 lt))
+
+  pub gather_end : (lists : List (Rc (Vec A Global) Global)) (ps : List ℕ) (i : ℕ) (front : List (Rc (Vec A Global) Global)) → length ps ≤ i
+      → items_of front ≡ items_of front ++ map (items_at (items_of lists)) (drop i ps)
+  gather_end lists ps i front past = sym (append-nil (items_of front)) ∙ ap (λ qs. items_of front ++ map (items_at (items_of lists)) qs) (sym (drop_past ps i past))
+
+-- ---- what stands at places
+
+module _ {A D : Type 0} (list_in : List A → D) where
+  -- what each of these lists is
+  abbrev pub lists_in : List (Rc (Vec A Global) Global) → List D
+  lists_in cs = map (λ c. list_in c.value.items) cs
+
+  lists_items : (cs : List (Rc (Vec A Global) Global)) → lists_in cs ≡ map list_in (items_of cs)
+  lists_items [] = refl
+  lists_items (c ∷ cs) = ap (λ ls. list_in c.value.items ∷ ls) (lists_items cs)
+
+  both_are : (a b : D) (xs ys : List D) → a ≡ b → xs ≡ ys → ◌≡◌ {A = List D} (a ∷ xs) (b ∷ ys)
+  both_are a b xs ys e f = ap (λ x. x ∷ xs) e ∙ ap (λ zs. b ∷ zs) f
+
+  module _ (K : Shape → D) where
+    -- what a type has
+    abbrev pub of_type : Ty → D
+    of_type t = K (shape_of_type t)
+
+    map_twice : (xs : List Ty) → map of_type xs ≡ map K (map shape_of_type xs)
+    map_twice [] = refl
+    map_twice (x ∷ xs) = ap (λ ks. K (shape_of_type x) ∷ ks) (map_twice xs)
+
+    module _ (lists : List (Rc (Vec A Global) Global)) (ts : List Ty) (n : ℕ) (le : n ≤ length ts) (are : lists_in lists ≡ map of_type (take n ts)) where
+      one_there : (p : ℕ) → p < n → list_in (items_at (items_of lists) p) ≡ of_type (type_at ts p)
+      one_there p lt =
+          sym (get_or-map_so list_in (items_of lists) p [])
+          ∙ (ap (λ ls. get_or ls p (list_in [])) (sym (lists_items lists) ∙ are)
+          ∙ (get_or-map of_type (take n ts) p bool (list_in []) (omega (arith, lt, length-take-le n ts le))
+          ∙ ap of_type (get_or-take n ts p bool lt)))
+
+      all_there : (ps : List ℕ) → AllByRecursion (λ p. p < n) ps → map list_in (map (items_at (items_of lists)) ps) ≡ map of_type (map (type_at ts) ps)
+      all_there [] h = refl
+      all_there (p ∷ ps) h =
+          both_are (list_in (items_at (items_of lists) p)) (of_type (type_at ts p)) (map list_in (map (items_at (items_of lists)) ps)) (map of_type (map (type_at ts) ps)) (one_there p h.0) (all_there ps h.1)
+
+      pub as_many : length lists ≡ n
+      as_many =
+          sym (length-map lists (λ (c : Rc (Vec A Global) Global). list_in c.value.items)) ∙ (ap length are ∙ (length-map (take n ts) of_type ∙ length-take-le n ts le))
+
+      -- that of what a type holds, of which the parts stand at these places
+      pub held_are : (held : List (Rc (Vec A Global) Global)) (ps : List ℕ) (t : Ty) (l : LayoutTy) → AllByRecursion (λ p. p < n) ps → items_of held ≡ map (items_at (items_of lists)) ps
+          → parts_in t ≡ map (type_at ts) ps → l ≡ layout_at t → lists_in held ≡ map K (shapes_in l.shape)
+      held_are held ps t l within gathered parts laid =
+          lists_items held
+          ∙ (ap (λ ls. map list_in ls) gathered
+          ∙ (all_there ps within
+          ∙ (map_twice (map (type_at ts) ps)
+          ∙ (ap (λ xs. map K (map shape_of_type xs)) (sym parts)
+          ∙ (ap (λ xs. map K xs) (sym (shapes_held t)) ∙ ap (λ (y : LayoutTy). map K (shapes_in y.shape)) (sym laid))))))
+
+    -- with one more type
+    pub pushed_are : (old new : List (Rc (Vec A Global) Global)) (y : Rc (Vec A Global) Global) (ts : List Ty) (n : ℕ) (l : LayoutTy) → n < length ts → new ≡ old ++ y ∷ [] → lists_in old ≡ map of_type (take n ts)
+        → list_in y.value.items ≡ K l.shape → l ≡ layout_at (type_at ts n) → lists_in new ≡ map of_type (take (n + 1) ts)
+    pushed_are old new y ts n l lt grown are is laid =
+        ap lists_in grown
+        ∙ (map-append (λ (c : Rc (Vec A Global) Global). list_in c.value.items) old (y ∷ [])
+        ∙ (ap (λ xs. xs ++ list_in y.value.items ∷ []) are
+        ∙ (ap (λ d. map of_type (take n ts) ++ d ∷ []) (is ∙ ap (λ (z : LayoutTy). K z.shape) laid)
+        ∙ (sym (map-append of_type (take n ts) (type_at ts n ∷ [])) ∙ ap (λ xs. map of_type xs) (sym (take_more ts n bool lt))))))
+
+  -- those of a whole list of types, and of a tuple of some of them
+  module _ (K : Shape → D) (lists : List (Rc (Vec A Global) Global)) (ts : List Ty) (are : lists_in lists ≡ map (of_type K) ts) where
+    pub whole_many : length lists ≡ length ts
+    whole_many = sym (length-map lists (λ (c : Rc (Vec A Global) Global). list_in c.value.items)) ∙ (ap length are ∙ length-map ts (of_type K))
+
+    pub tuple_held : (held : List (Rc (Vec A Global) Global)) (ps : List ℕ) (fs : Fields) (l : LayoutTy) → AllByRecursion (λ p. p < length ts) ps → items_of held ≡ map (items_at (items_of lists)) ps
+        → field_types fs ≡ map (type_at ts) ps → l ≡ layout_of_fields_at fs → lists_in held ≡ map K (shapes_in l.shape)
+    tuple_held held ps fs l within gathered parts laid =
+        let whole : lists_in lists ≡ map (of_type K) (take (length ts) ts) = are ∙ ap (λ xs. map (of_type K) xs) (sym (take_all ts (length ts) (omega arith))) in
+        held_are K lists ts (length ts) (omega arith) whole held ps (fields tuple_type fs) l within gathered parts laid
+
+-- all places below a number are below a greater one
+pub all_below : (n m : ℕ) (ps : List ℕ) → n ≤ m → AllByRecursion (λ p. p < n) ps → AllByRecursion (λ p. p < m) ps
+all_below n m [] le h = tt
+all_below n m (p ∷ ps) le h = (omega (arith, le, h.0), all_below n m ps le h.1)
+
+-- ---- types with each resource replaced
+
+pub fields_by : (s : Standing) (fs : Fields) → field_types (replaced_fields s fs) ≡ map (replaced s) (field_types fs)
+fields_by s no_fields = refl
+fields_by s (field l t fs) = ap (λ ts. replaced s t ∷ ts) (fields_by s fs)
+
+payloads_by : (s : Standing) (cs : Cases) → payload_types (replaced_cases s cs) ≡ map (replaced s) (payload_types cs)
+payloads_by s no_cases = refl
+payloads_by s (plain l cs) = payloads_by s cs
+payloads_by s (carrying l t cs) = ap (λ ts. replaced s t ∷ ts) (payloads_by s cs)
+
+parts_by : (s : Standing) (t : Ty) → parts_in (replaced s t) ≡ map (replaced s) (parts_in t)
+parts_by s bool = refl
+parts_by s (signed w) = refl
+parts_by s (unsigned w) = refl
+parts_by s char = refl
+parts_by s string = refl
+parts_by s (list t) = refl
+parts_by s (fixed_list t n) = refl
+parts_by s (fields k fs) = fields_by s fs
+parts_by s (cases k cs) = payloads_by s cs
+parts_by s (flags ls) = refl
+parts_by s (own r) = refl
+parts_by s (borrow r) = refl
+
+type_by : (s : Standing) (types : List Ty) (p : ℕ) → type_at (types_by s types) p ≡ replaced s (type_at types p)
+type_by s types p = get_or-map_so (replaced s) types p bool
+
+pub types_at_by : (s : Standing) (types : List Ty) (ps : List ℕ) → map (replaced s) (map (type_at types) ps) ≡ map (type_at (types_by s types)) ps
+types_at_by s types [] = refl
+types_at_by s types (p ∷ ps) = ap (λ t. t ∷ map (replaced s) (map (type_at types) ps)) (sym (type_by s types p)) ∙ ap (λ ts. type_at (types_by s types) p ∷ ts) (types_at_by s types ps)
+
+pub parts_placed : (s : Standing) (types : List Ty) (n : ℕ) (ps : List ℕ) → parts_in (type_at types n) ≡ map (type_at types) ps → parts_in (type_at (types_by s types) n) ≡ map (type_at (types_by s types)) ps
+parts_placed s types n ps parts =
+    ap parts_in (type_by s types n) ∙ (parts_by s (type_at types n) ∙ (ap (λ ts. map (replaced s) ts) parts ∙ types_at_by s types ps))
+
+pub layout_placed : (ls : List LayoutTy) (ts : List Ty) (n : ℕ) (l : LayoutTy) → ls ≡ map layout_at ts → l ≡ at_place ls n → l ≡ layout_at (type_at ts n)
+layout_placed ls ts n l laid is = is ∙ (ap (λ xs. at_place xs n) laid ∙ get_or-map_so layout_at ts n bool)
+
+pub as_many_by : (s : Standing) (types : List Ty) → length (types_by s types) ≡ length types
+as_many_by s types = length-map types (replaced s)
+
+pub as_many_laid : (ls : List LayoutTy) (s : Standing) (types : List Ty) → ls ≡ map layout_at (types_by s types) → length ls ≡ length types
+as_many_laid ls s types laid = ap length laid ∙ (length-map (types_by s types) layout_at ∙ as_many_by s types)
+
+pub all_types : (ts : List Ty) (n : ℕ) → length ts ≤ n → take n ts ≡ ts
+all_types ts n past = take_all ts n past

@@ -1,0 +1,12 @@
+//! What has to be looked at, and written, of the values of an arena's types, by their places.
+//!
+//! Each list costs what the definition of its type says, and is shared by what holds that type
+//! (that it is listed beforehand is this project's own choice).
+#![tactic(auto)]
+
+mod checks;
+mod gathering;
+mod programs;
+mod puts;
+
+pub use programs::{CallProgram, PlacedPrograms};

@@ -1,0 +1,3 @@
+pub mod CheckForms
+pub mod PutForms
+pub mod SlotForms
