@@ -1,3 +1,4 @@
+mod ProgramLemmas
 pub mod FlatLemmas
 mod HandedCounts
 pub mod HandleLemmas
@@ -6,7 +7,6 @@ pub mod CallLemmas
 mod CountLaws
 mod SettledLaws
 mod CopyLaws
-pub mod LeafLemmas
 pub mod CopyLemmas
 pub mod ReadLemmas
 pub mod StoredLemmas
@@ -18,3 +18,8 @@ pub mod FlatTells
 mod TagLaws
 pub mod ScanCallCallLemmas
 pub mod NothingLaws
+mod CallPutsLemmas
+pub mod PutWithin
+pub mod PutsShown
+pub mod PutsAreReady
+pub mod PutCallLemmas

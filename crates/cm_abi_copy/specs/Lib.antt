@@ -5,11 +5,8 @@ pub mod CallCopies
 pub mod Copies
 pub mod Settled
 pub mod SlotLaws
-pub mod Shown
-pub mod Copying
-pub mod Ready
 pub mod Kept
-pub mod Known
 pub mod PartLaws
 pub mod MetLeaves
 pub mod Scans
+pub mod CallPutting

@@ -3,18 +3,18 @@
 ghost use Rattle.std.specs.Prelude.{◌≡◌, ◌+◌, ◌≤◌, length};
 ghost use Rattle.cm_abi_model.specs.Parts.{handle_count, part_count};
 ghost use Rattle.cm_abi_model.specs.Stores.{poke};
-ghost use Rattle.cm_abi_copy.specs.Copying.{copying_of};
-ghost use Rattle.cm_abi_copy.specs.Known.{CanBeCopied};
+ghost use Rattle.cm_abi_putting.specs.Copying.{copying_of};
+ghost use Rattle.cm_abi_putting.specs.Known.{CanBeCopied};
 ghost use Rattle.cm_layout.specs.Layouts.{layout_of};
 ghost use Rattle.cm_layout.specs.Shapes.{layout_at};
 ghost use Rattle.cm_abi_store.specs.Storing.{given_of, stored_by};
 ghost use Rattle.cm_types.specs.Types.{Ty};
 ghost use Rattle.cm_types.specs.Values.{Val};
 
-use crate::copier::Copier;
 use crate::laws::{handles_are_stored_as_numbers, what_is_read_is_copied};
 use crate::place::Place;
 use cm_abi_load::laws::numbers_are_sized;
+use cm_abi_putting::Copier;
 use cm_abi_store::{Next, store_value};
 use cm_layout::Layout;
 use cm_layout::laws::layouts;

@@ -1,17 +1,18 @@
 //! The values of a call, copied to its receiver.
 
-ghost use Rattle.std.specs.Prelude.{◌≡◌, ◌^◌, ◌<◌, ℕ, [], IfErr, List, OnErr, OnOk, length, map};
-ghost use Rattle.std.specs.Prelude.{slice_index};
+ghost use Rattle.std.specs.Prelude.{◌≡◌, ◌^◌, ◌<◌, ℕ, [], IfErr, IfSome, List, OnErr, OnOk, length};
+ghost use Rattle.std.specs.Prelude.{map, slice_index};
 ghost use Rattle.cm_types.specs.CoreValues.{kind_of};
 ghost use Rattle.cm_types.specs.Types.{Fields};
 ghost use Rattle.cm_types.specs.Values.{Val};
-ghost use Rattle.cm_abi_model.specs.Views.{View};
+ghost use Rattle.cm_layout.specs.Layouts.{layout_of};
+ghost use Rattle.cm_abi_model.specs.Views.{View, flat_limit};
 ghost use Rattle.cm_abi_model.specs.Ways.{way_of};
 ghost use Rattle.cm_abi_model.specs.Copies.{IsFaultOfCopying, handles_of_values};
+ghost use Rattle.cm_abi_programs.specs.CallPuts.{call_puts_in, call_puts_of};
 ghost use Rattle.cm_abi_copy.specs.Copies.{FoundCanBeCopied, IsCopied};
 
-use crate::copier::Copier;
-use crate::copy_call;
+use crate::calls::copy_passed;
 use crate::found::Found;
 use crate::kept::Scan;
 use crate::settled_laws::what_can_be_copied_is_settled;
@@ -20,6 +21,8 @@ use cm_abi_model::laws::{
     places_are_read_alike, what_is_received_is_denoted, what_is_stored_stays,
 };
 use cm_abi_model::{AbiFault, Encodings, PartRecord, Receiver};
+use cm_abi_programs::CallPuts;
+use cm_abi_putting::Copier;
 use cm_abi_store::laws::{what_is_passed_fits, what_is_passed_stays};
 use cm_abi_store::{Target, put_numbers};
 use cm_handles::Table;
@@ -72,6 +75,77 @@ pub fn copy(
     ensures kept_stays { kept.new ≡ record kept.old { numbers = kept.new.numbers } }
     ensures no_numbers { OnErr result (kept.new.numbers ≡ []) }
 {
+    copy_either(kept, memory, table, slots, to, found, None)
+}
+
+/// Copies the values that were scanned to their receiver as [`copy`] does, by the puts of what
+/// passes their types (`cm_abi_programs`), which are listed once: the layout is not walked.
+pub fn copy_by(
+    kept: &mut Scan,
+    memory: &mut [u8],
+    table: &mut Table,
+    slots: &mut [CoreValue],
+    to: Receiver,
+    found: &Found<'_>,
+    puts: &CallPuts,
+) -> Result<(), AbiFault>
+    requires copied { (giver : View) × (answers : List ℕ) × (types : Fields) × (v : Val)
+        × FoundCanBeCopied (length memory.old) (map kind_of slots.old) giver found.now kept.old
+        answers types v }
+    requires few { length memory.old < 2 ^ 32 }
+    requires puts { call_puts_in puts.now ≡ call_puts_of
+        (flat_limit (way_of found.now.passed.way)) (layout_of found.now.passed.layout.now) }
+    ensures copied { (giver : View) (answers : List ℕ) (types : Fields) (v : Val)
+        → FoundCanBeCopied (length memory.old) (map kind_of slots.old) giver found.now kept.old
+        answers types v
+        → OnOk result (IsCopied to (way_of found.now.passed.way) types v kept.old.parts answers
+        memory.old memory.new table.old.handles table.new.handles slots.new kept.new.numbers) }
+    ensures err { (giver : View) (answers : List ℕ) (types : Fields) (v : Val)
+        → FoundCanBeCopied (length memory.old) (map kind_of slots.old) giver found.now kept.old
+        answers types v
+        → IfErr result (IsFaultOfCopying kept.old.parts answers to table.old.handles
+        (handles_of_values types v)) }
+    ensures memory_stays { OnErr result (memory.new ≡ memory.old) }
+    ensures table_stays { OnErr result (table.new.handles ≡ table.old.handles) }
+    ensures slots_stay { OnErr result (slots.new ≡ slots.old) }
+    ensures kept_stays { kept.new ≡ record kept.old { numbers = kept.new.numbers } }
+    ensures no_numbers { OnErr result (kept.new.numbers ≡ []) }
+{
+    copy_either(kept, memory, table, slots, to, found, Some(puts))
+}
+
+/// `copy`, by puts where there are some, else by the layout.
+fn copy_either(
+    kept: &mut Scan,
+    memory: &mut [u8],
+    table: &mut Table,
+    slots: &mut [CoreValue],
+    to: Receiver,
+    found: &Found<'_>,
+    puts: Option<&CallPuts>,
+) -> Result<(), AbiFault>
+    requires copied { (giver : View) × (answers : List ℕ) × (types : Fields) × (v : Val)
+        × FoundCanBeCopied (length memory.old) (map kind_of slots.old) giver found.now kept.old
+        answers types v }
+    requires few { length memory.old < 2 ^ 32 }
+    requires puts { IfSome puts (λ cs. call_puts_in cs.now ≡ call_puts_of
+        (flat_limit (way_of found.now.passed.way)) (layout_of found.now.passed.layout.now)) }
+    ensures copied { (giver : View) (answers : List ℕ) (types : Fields) (v : Val)
+        → FoundCanBeCopied (length memory.old) (map kind_of slots.old) giver found.now kept.old
+        answers types v
+        → OnOk result (IsCopied to (way_of found.now.passed.way) types v kept.old.parts answers
+        memory.old memory.new table.old.handles table.new.handles slots.new kept.new.numbers) }
+    ensures err { (giver : View) (answers : List ℕ) (types : Fields) (v : Val)
+        → FoundCanBeCopied (length memory.old) (map kind_of slots.old) giver found.now kept.old
+        answers types v
+        → IfErr result (IsFaultOfCopying kept.old.parts answers to table.old.handles
+        (handles_of_values types v)) }
+    ensures memory_stays { OnErr result (memory.new ≡ memory.old) }
+    ensures table_stays { OnErr result (table.new.handles ≡ table.old.handles) }
+    ensures slots_stay { OnErr result (slots.new ≡ slots.old) }
+    ensures kept_stays { kept.new ≡ record kept.old { numbers = kept.new.numbers } }
+    ensures no_numbers { OnErr result (kept.new.numbers ≡ []) }
+{
     what_can_be_copied_is_settled();
     what_is_stored_stays();
     places_are_read_alike();
@@ -96,7 +170,7 @@ pub fn copy(
     let from = copier(found.memory, encodings, places, numbers, records);
     let mut zeros = [0; MAX_FLAT_PARAMS];
     let passed = &mut zeros[..slots.len()];
-    copy_call(&from, &found.passed, memory, passed);
+    copy_passed(&from, &found.passed, puts, memory, passed);
     put_numbers(passed, slots);
     Ok(())
 }

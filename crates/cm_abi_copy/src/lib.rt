@@ -8,31 +8,27 @@
 
 mod call_laws;
 mod calls;
-mod copier;
 mod copies;
 mod copying;
 mod found;
 mod kept;
 pub mod laws;
-mod leaves;
 pub mod met_laws;
 mod passed;
 mod place;
+mod put_laws;
 pub mod scan_call_laws;
 mod scan_call_leaves;
 mod scanned;
 mod settled_laws;
 mod slots;
-mod texts;
 
-pub use calls::copy_call;
-pub use copier::Copier;
+pub use calls::{copy_call, put_call};
+pub use cm_abi_putting::{Copier, number_stored, size_of_part, write_text_at};
 pub use copies::copy_value;
-pub use copying::copy;
+pub use copying::{copy, copy_by};
 pub use found::Found;
 pub use kept::Scan;
-pub use leaves::number_stored;
 pub use place::Place;
 pub use scan_call_leaves::handles_met;
-pub use scanned::scan;
-pub use texts::{size_of_part, write_text_at};
+pub use scanned::{scan, scan_by};

@@ -1,6 +1,7 @@
 //! Values that core values denote, with no tree made of them.
 
-ghost use Rattle.std.specs.Prelude.{◌≡◌, ◌^◌, ◌<◌, ◌⊎◌, [], Err, IfErr, IsOk, Ok, OnOk};
+ghost use Rattle.std.specs.Prelude.{◌≡◌, ◌^◌, ◌<◌, ◌⊎◌, [], Err, IfErr, IfSome, IsOk, Ok};
+ghost use Rattle.std.specs.Prelude.{OnOk};
 ghost use Rattle.std.specs.Prelude.{◌*◌, ◌≤◌, Bool, List, MatchResult, OnErr, length, true};
 ghost use Rattle.cm_types.specs.Types.{Fields};
 ghost use Rattle.cm_types.specs.Values.{Val};
@@ -14,6 +15,8 @@ ghost use Rattle.cm_abi_model.specs.Views.{View, flat_limit};
 ghost use Rattle.cm_abi_model.specs.Ways.{way_of};
 ghost use Rattle.cm_abi_load.specs.Meeting.{AreAsWanted};
 ghost use Rattle.cm_abi_lift.specs.Lifts.{IsTupleOf, lift_of};
+ghost use Rattle.cm_abi_programs.specs.Checks.{passed_checks_of};
+ghost use Rattle.cm_abi_programs.specs.Coded.{checks_in};
 ghost use Rattle.cm_abi_copy.specs.Kept.{AreAtRest, kept_in};
 ghost use Rattle.cm_abi_copy.specs.MetLeaves.{leaves_found};
 ghost use Rattle.cm_abi_copy.specs.Scans.{IsFaultOfScan, IsKept, KeepsNothing, giver_of};
@@ -28,6 +31,7 @@ use cm_abi_lift::{Passed, first_fault, hand_over, is_sound};
 use cm_abi_load::{Giver, MetHandle, Stop};
 use cm_abi_model::laws::nothing_is_met_without_parts;
 use cm_abi_model::{AbiFault, Encodings, HandleLeaf, MAX_CONTENT};
+use cm_abi_programs::Check;
 use cm_abi_requests::laws::content_of_what_is_denoted;
 use cm_abi_requests::requesting_laws::small_parts_can_be_asked_for;
 use cm_handles::Table;
@@ -72,13 +76,88 @@ pub fn scan(
     ensures unchanged { OnErr result (table.new ≡ table.old) }
     ensures empty { OnErr result (kept.new ≡ nothing_kept) }
 {
+    scan_either(alloc, kept, memory, table, encodings, passed, None)
+}
+
+/// Looks at the values that core values denote as [`scan`] does, by the checks of what passes their
+/// types (`cm_abi_programs`), which are listed once: the layout is not walked.
+pub fn scan_by(
+    alloc: Global,
+    kept: &mut Scan,
+    memory: &[u8],
+    table: &mut Table,
+    encodings: Encodings,
+    passed: &Passed<'_>,
+    checks: &[Check],
+) -> Result<(), AbiFault>
+    requires layout { (types : Fields) × IsTupleOf types passed.now }
+    requires lends { LendsBelow (2 ^ 100) table.old.handles }
+    requires checks { checks_in checks.now ≡ passed_checks_of
+        (flat_limit (way_of passed.now.way)) (layout_of passed.now.layout.now) }
+    ensures scans { (w : View) (types : Fields)
+        → IsGivenBy w memory.now table.old.handles encodings.source → IsTupleOf types passed.now
+        → MatchResult result
+        (λ _. (v : Val) × ScansCall w encodings.target (way_of passed.now.way) types
+        passed.now.slots.now v table.new.handles kept.new)
+        (IsFaultOfScan w types passed.now) }
+    ensures value { OnOk result (kept.new.has_value ≡ true) }
+    ensures few { OnOk result (all_kept kept.new ≤ 2 * things_kept kept.new) }
+    ensures walked { OnOk result ((v : Val)
+        × IsKept (giver_of memory.now table.old.handles encodings.source) encodings.target
+        (flat_limit (way_of passed.now.way)) (layout_of passed.now.layout.now) passed.now.slots.now
+        v kept.new) }
+    ensures sound { IsSoundHandles table.new.handles }
+    ensures unchanged { OnErr result (table.new ≡ table.old) }
+    ensures empty { OnErr result (kept.new ≡ nothing_kept) }
+{
+    scan_either(alloc, kept, memory, table, encodings, passed, Some(checks))
+}
+
+/// `scan`, by checks where there are some, else by the layout.
+fn scan_either(
+    alloc: Global,
+    kept: &mut Scan,
+    memory: &[u8],
+    table: &mut Table,
+    encodings: Encodings,
+    passed: &Passed<'_>,
+    checks: Option<&[Check]>,
+) -> Result<(), AbiFault>
+    requires layout { (types : Fields) × IsTupleOf types passed.now }
+    requires lends { LendsBelow (2 ^ 100) table.old.handles }
+    requires checks { IfSome checks (λ cs. checks_in cs.now ≡ passed_checks_of
+        (flat_limit (way_of passed.now.way)) (layout_of passed.now.layout.now)) }
+    ensures scans { (w : View) (types : Fields)
+        → IsGivenBy w memory.now table.old.handles encodings.source → IsTupleOf types passed.now
+        → MatchResult result
+        (λ _. (v : Val) × ScansCall w encodings.target (way_of passed.now.way) types
+        passed.now.slots.now v table.new.handles kept.new)
+        (IsFaultOfScan w types passed.now) }
+    ensures value { OnOk result (kept.new.has_value ≡ true) }
+    ensures few { OnOk result (all_kept kept.new ≤ 2 * things_kept kept.new) }
+    ensures walked { OnOk result ((v : Val)
+        × IsKept (giver_of memory.now table.old.handles encodings.source) encodings.target
+        (flat_limit (way_of passed.now.way)) (layout_of passed.now.layout.now) passed.now.slots.now
+        v kept.new) }
+    ensures sound { IsSoundHandles table.new.handles }
+    ensures unchanged { OnErr result (table.new ≡ table.old) }
+    ensures empty { OnErr result (kept.new ≡ nothing_kept) }
+{
     lifting_is_exact();
     first_faults_are_told();
     records_tell_what_is_passed();
     nothing_is_met_without_parts();
     what_has_nothing_keeps_nothing();
     what_is_passed_is_met();
-    match scan_values(alloc, &mut kept.lists, memory, table, encodings, passed) {
+    match scan_values(
+        alloc,
+        &mut kept.lists,
+        memory,
+        table,
+        encodings,
+        passed,
+        checks,
+    ) {
         Ok(()) => {
             kept.has_value = true;
             is_sound(table);
@@ -127,8 +206,11 @@ fn scan_values(
     table: &mut Table,
     encodings: Encodings,
     passed: &Passed<'_>,
+    checks: Option<&[Check]>,
 ) -> Result<(), AbiFault>
     requires layout { (types : Fields) × IsTupleOf types passed.now }
+    requires checks { IfSome checks (λ cs. checks_in cs.now ≡ passed_checks_of
+        (flat_limit (way_of passed.now.way)) (layout_of passed.now.layout.now)) }
     requires lends { LendsBelow (2 ^ 100) table.old.handles }
     ensures ok { OnOk result ((v : Val) × (tags : List Bool)
         × (lift_of memory.now table.old.handles encodings.source (way_of passed.now.way)
@@ -167,6 +249,7 @@ fn scan_values(
         &giver,
         encodings.target,
         passed,
+        checks,
         &mut lists.progress,
         &mut records,
     ) {

@@ -14,8 +14,8 @@ use Rattle.cm_abi_model.specs.Requests.{text_bytes}
 use Rattle.cm_abi_model.specs.Texts.{Has, bytes_from, charset_of, spell, text_size}
 use Rattle.cm_abi_load.specs.Sized.{IsSized}
 use Rattle.cm_abi_store.specs.Fitting.{HasRoom}
-use Rattle.cm_abi_copy.specs.Copying.{Copying, shown_to}
-use Rattle.cm_abi_copy.specs.Shown.{scalars_at}
+use Rattle.cm_abi_putting.specs.Copying.{Copying, shown_to}
+use Rattle.cm_abi_putting.specs.Shown.{scalars_at}
 
 -- The string at a pointer, of a tagged length, can be copied as the part of this number: its bytes
 -- lie in the source and are a text, which has a place with room for it, and takes as many bytes

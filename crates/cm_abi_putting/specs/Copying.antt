@@ -6,8 +6,8 @@ use Rattle.cm_abi_model.specs.declared.encoding.StringEncoding.{StringEncoding}
 use Rattle.cm_abi_model.specs.Stores.{Given}
 use Rattle.cm_abi_model.specs.declared.record.PartRecord.{PartRecord}
 use Rattle.cm_abi_store.specs.Storing.{given_of}
-use Rattle.cm_abi_copy.specs.declared.copier.Copier.{Copier}
-use Rattle.cm_abi_copy.specs.Shown.{value_at}
+use Rattle.cm_abi_putting.specs.declared.copier.Copier.{Copier}
+use Rattle.cm_abi_putting.specs.Shown.{value_at}
 
 -- The memory that values are copied from, and how strings are encoded there; what the values are
 -- given where they go; and how many bytes each part takes there.

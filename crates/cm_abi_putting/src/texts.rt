@@ -4,9 +4,9 @@ ghost use Rattle.std.specs.Prelude.{◌≡◌, ℕ, ◌+◌, ◌<◌, ◌≤◌,
 ghost use Rattle.cm_abi_model.specs.Requests.{stored_charset, text_bytes};
 ghost use Rattle.cm_abi_model.specs.Stores.{Given, placed, poke};
 ghost use Rattle.cm_abi_model.specs.Texts.{bytes_from, text_size};
-ghost use Rattle.cm_abi_copy.specs.Copying.{copying_of, given_for};
-ghost use Rattle.cm_abi_copy.specs.Ready.{IsTextReady};
-ghost use Rattle.cm_abi_copy.specs.Shown.{scalars_at};
+ghost use Rattle.cm_abi_putting.specs.Copying.{copying_of, given_for};
+ghost use Rattle.cm_abi_putting.specs.Ready.{IsTextReady};
+ghost use Rattle.cm_abi_putting.specs.Shown.{scalars_at};
 
 use crate::copier::Copier;
 use cm_abi_model::{StringEncoding, UTF16_TAG};

@@ -13,7 +13,7 @@ use Rattle.cm_abi_model.specs.Views.{Way}
 use Rattle.cm_abi_load.specs.Outcomes.{State}
 use Rattle.cm_abi_load.specs.Reading.{Source, read_at}
 use Rattle.cm_abi_store.specs.Fitting.{Fits}
-use Rattle.cm_abi_copy.specs.Copying.{Copying}
+use Rattle.cm_abi_putting.specs.Copying.{Copying}
 
 abbrev mutual
   -- the size that is known of each part that is a string, from the part of this number on, is that

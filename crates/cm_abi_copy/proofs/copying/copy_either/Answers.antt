@@ -17,10 +17,10 @@ use Rattle.cm_abi_model.specs.Scanned.{Scanned}
 use Rattle.cm_abi_model.specs.Stores.{poke}
 use Rattle.cm_abi_model.specs.Views.{View}
 use Rattle.cm_abi_model.specs.Ways.{way_of}
-use Rattle.cm_abi_copy.specs.declared.copier.Copier.{Copier}
+use Rattle.cm_abi_putting.specs.declared.copier.Copier.{Copier}
 use Rattle.cm_handles.specs.Handles.{indices_left}
 use Rattle.cm_abi_copy.proofs.CopyLaws.{IsFrom, all_zeros, are_numbers, as_many, few_slots, fits, framed, given_is, gives, none_there, none_told, numbers_are, passed_on, received, received_serves, taken_long}
-use Rattle.cm_abi_copy.proofs.copying.copy.Goals as goal
+use Rattle.cm_abi_copy.proofs.copying.copy_either.Goals as goal
 use Rattle.cm_abi_model.proofs.GivingLaws.{numbers_counted}
 
 holds : (b : Bool) → b ≡ true → IsTrue b
@@ -108,8 +108,8 @@ slice_bounds-passed-end c =
     let gave = subst (λ ls. Gives c.args.to c.args.table.now.handles c.give.new.table.handles ls c.give.new.numbers.items) handles_are c.in-Ok.ensures.gives in
     sym (taken_long (length c.args.slots.now) all_zeros (few_slots (length c.args.memory.now) (map kind_of c.args.slots.now) giver c.args.found.now c.args.kept.now answers types v c.args.to c.args.table.now.handles c.give.new.table.handles c.give.new.numbers.items can settled gave c.args.slots.now refl))
 
-pub copy_call-requires : goal.copy_call-requires
-copy_call-requires c =
+pub copy_passed-requires-clause-denoted : goal.copy_passed-requires-clause-denoted
+copy_passed-requires-clause-denoted c =
     let giver = c.requires.copied.0 in
     let answers = c.requires.copied.1 in
     let types = c.requires.copied.2 in
@@ -151,7 +151,7 @@ put_numbers-requires-clause-length c =
     let many = as_many (length c.args.memory.now) (map kind_of c.args.slots.now) giver c.args.found.now c.args.kept.now answers types v c.args.to c.args.table.now.handles c.give.new.table.handles c.give.new.numbers.items can settled gave c.args.slots.now refl in
     let taken = taken_long (length c.args.slots.now) all_zeros few in
     let long : length (call_kinds (way_of c.args.found.now.passed.way) types) ≤ length (take (length c.args.slots.now) all_zeros) = omega (arith, many, taken) in
-    sym (c.copy_call.ensures.slots_stay ∙ taken)
+    sym (c.copy_passed.ensures.slots_stay ∙ taken)
 
 pub put_numbers-requires-clause-fits : goal.put_numbers-requires-clause-fits
 put_numbers-requires-clause-fits c =
@@ -181,12 +181,12 @@ put_numbers-requires-clause-fits c =
     let long : length (call_kinds (way_of c.args.found.now.passed.way) types) ≤ length (take (length c.args.slots.now) all_zeros) = omega (arith, many, taken) in
     let on = passed_on (length c.args.memory.now) (map kind_of c.args.slots.now) giver c.args.found.now c.args.kept.now answers types v c.args.to c.args.table.now.handles c.give.new.table.handles c.give.new.numbers.items can settled gave from (length (take (length c.args.slots.now) all_zeros)) from_is long in
     let is = given_is (length c.args.memory.now) (map kind_of c.args.slots.now) giver c.args.found.now c.args.kept.now answers types v c.args.to c.args.table.now.handles c.give.new.table.handles c.give.new.numbers.items can settled gave from from_is in
-    let numbers : c.copy_call.new.slots ≡ poke (call_numbers (given_by c.args.kept.now.parts answers types v c.args.to c.args.table.now.handles) (way_of c.args.found.now.passed.way) types v) (take (length c.args.slots.now) all_zeros) =
-    c.copy_call.ensures.passed types v on ∙ ap (λ g. poke (call_numbers g (way_of c.args.found.now.passed.way) types v) (take (length c.args.slots.now) all_zeros)) is in
+    let numbers : c.copy_passed.new.slots ≡ poke (call_numbers (given_by c.args.kept.now.parts answers types v c.args.to c.args.table.now.handles) (way_of c.args.found.now.passed.way) types v) (take (length c.args.slots.now) all_zeros) =
+    c.copy_passed.ensures.passed types v on ∙ ap (λ g. poke (call_numbers g (way_of c.args.found.now.passed.way) types v) (take (length c.args.slots.now) all_zeros)) is in
     fits (length c.args.memory.now) (map kind_of c.args.slots.now) giver c.args.found.now c.args.kept.now answers types v c.args.to c.args.table.now.handles c.give.new.table.handles c.give.new.numbers.items can settled gave c.what_is_passed_fits.ensures c.args.memory.now (take (length c.args.slots.now) all_zeros) refl c.requires.few gave.sound (none_there (length c.args.slots.now))
     (λ k. subst (λ xs. slice_index xs k < 2 ^ 32) (c.places-places.ensures.places ∙ (ap (λ (p : Requesting). p.places) same ∙ settled.places)) (c.are_numbers.ensures k))
     (λ k. subst (λ xs. slice_index xs k < 2 ^ 32) (c.deref-numbers.ensures.value ∙ numbers_are (length c.args.memory.now) (map kind_of c.args.slots.now) giver c.args.found.now c.args.kept.now answers types v c.args.to c.args.table.now.handles c.give.new.table.handles c.give.new.numbers.items can settled gave) (c.are_numbers-2.ensures k))
-    c.copy_call.new.slots numbers
+    c.copy_passed.new.slots numbers
 
 pub returns-clause-copied : goal.returns-clause-copied
 returns-clause-copied c = λ giver answers types v can.
@@ -211,24 +211,24 @@ returns-clause-copied c = λ giver answers types v can.
     let long : length (call_kinds (way_of c.args.found.now.passed.way) types) ≤ length (take (length c.args.slots.now) all_zeros) = omega (arith, many, taken) in
     let on = passed_on (length c.args.memory.now) (map kind_of c.args.slots.now) giver c.args.found.now c.args.kept.now answers types v c.args.to c.args.table.now.handles c.give.new.table.handles c.give.new.numbers.items can settled gave from (length (take (length c.args.slots.now) all_zeros)) from_is long in
     let is = given_is (length c.args.memory.now) (map kind_of c.args.slots.now) giver c.args.found.now c.args.kept.now answers types v c.args.to c.args.table.now.handles c.give.new.table.handles c.give.new.numbers.items can settled gave from from_is in
-    let numbers : c.copy_call.new.slots ≡ poke (call_numbers (given_by c.args.kept.now.parts answers types v c.args.to c.args.table.now.handles) (way_of c.args.found.now.passed.way) types v) (take (length c.args.slots.now) all_zeros) =
-    c.copy_call.ensures.passed types v on ∙ ap (λ g. poke (call_numbers g (way_of c.args.found.now.passed.way) types v) (take (length c.args.slots.now) all_zeros)) is in
-    let bytes : c.copy_call.new.memory ≡ poke (call_bytes (given_by c.args.kept.now.parts answers types v c.args.to c.args.table.now.handles) (way_of c.args.found.now.passed.way) types v) c.args.memory.now =
-    c.copy_call.ensures.stored types v on ∙ ap (λ g. poke (call_bytes g (way_of c.args.found.now.passed.way) types v) c.args.memory.now) is in
+    let numbers : c.copy_passed.new.slots ≡ poke (call_numbers (given_by c.args.kept.now.parts answers types v c.args.to c.args.table.now.handles) (way_of c.args.found.now.passed.way) types v) (take (length c.args.slots.now) all_zeros) =
+    c.copy_passed.ensures.passed types v on ∙ ap (λ g. poke (call_numbers g (way_of c.args.found.now.passed.way) types v) (take (length c.args.slots.now) all_zeros)) is in
+    let bytes : c.copy_passed.new.memory ≡ poke (call_bytes (given_by c.args.kept.now.parts answers types v c.args.to c.args.table.now.handles) (way_of c.args.found.now.passed.way) types v) c.args.memory.now =
+    c.copy_passed.ensures.stored types v on ∙ ap (λ g. poke (call_bytes g (way_of c.args.found.now.passed.way) types v) c.args.memory.now) is in
     let clear = settled.regions.0 (subst (λ (p : Requesting). AreDisjoint (regions_at p.records p.places)) parts_are (c.are_apart.ensures.answer.0 (holds c.are_apart.result c.if-not-are_apart.false))) in
-    let stored = framed (length c.args.memory.now) (map kind_of c.args.slots.now) giver c.args.found.now c.args.kept.now answers types v c.args.to c.args.table.now.handles c.give.new.table.handles c.give.new.numbers.items can settled gave c.what_is_stored_stays.ensures c.args.memory.now c.copy_call.new.memory refl clear bytes in
-    let has : (w : View) → IsReceivingIn w c.args.kept.now.parts.target c.args.to c.copy_call.new.memory c.give.new.table.handles
+    let stored = framed (length c.args.memory.now) (map kind_of c.args.slots.now) giver c.args.found.now c.args.kept.now answers types v c.args.to c.args.table.now.handles c.give.new.table.handles c.give.new.numbers.items can settled gave c.what_is_stored_stays.ensures c.args.memory.now c.copy_passed.new.memory refl clear bytes in
+    let has : (w : View) → IsReceivingIn w c.args.kept.now.parts.target c.args.to c.copy_passed.new.memory c.give.new.table.handles
     → Receives w (way_of c.args.found.now.passed.way) types c.put_numbers.new.slots (given_by c.args.kept.now.parts answers types v c.args.to c.args.table.now.handles) v =
     λ w view.
-    received (length c.args.memory.now) (map kind_of c.args.slots.now) giver c.args.found.now c.args.kept.now answers types v c.args.to c.args.table.now.handles c.give.new.table.handles c.give.new.numbers.items can settled gave c.places_are_read_alike.ensures.placed c.places_are_read_alike.ensures.apart w c.copy_call.new.memory c.put_numbers.new.slots view stored.0
-    (are_numbers (length c.args.memory.now) (map kind_of c.args.slots.now) giver c.args.found.now c.args.kept.now answers types v c.args.to c.args.table.now.handles c.give.new.table.handles c.give.new.numbers.items can settled gave c.what_is_passed_stays.ensures (take (length c.args.slots.now) all_zeros) c.copy_call.new.slots c.put_numbers.new.slots (none_there (length c.args.slots.now)) long numbers c.put_numbers.ensures)
+    received (length c.args.memory.now) (map kind_of c.args.slots.now) giver c.args.found.now c.args.kept.now answers types v c.args.to c.args.table.now.handles c.give.new.table.handles c.give.new.numbers.items can settled gave c.places_are_read_alike.ensures.placed c.places_are_read_alike.ensures.apart w c.copy_passed.new.memory c.put_numbers.new.slots view stored.0
+    (are_numbers (length c.args.memory.now) (map kind_of c.args.slots.now) giver c.args.found.now c.args.kept.now answers types v c.args.to c.args.table.now.handles c.give.new.table.handles c.give.new.numbers.items can settled gave c.what_is_passed_stays.ensures (take (length c.args.slots.now) all_zeros) c.copy_passed.new.slots c.put_numbers.new.slots (none_there (length c.args.slots.now)) long numbers c.put_numbers.ensures)
     (gives (length c.args.memory.now) (map kind_of c.args.slots.now) giver c.args.found.now c.args.kept.now answers types v c.args.to c.args.table.now.handles c.give.new.table.handles c.give.new.numbers.items can settled gave)
-    c.copy_call.ensures.stays clear in
+    c.copy_passed.ensures.stays clear in
     record {
       received = has;
       denoted = λ w view encoding none.
           c.what_is_received_is_denoted.ensures w (way_of c.args.found.now.passed.way) types c.put_numbers.new.slots (given_by c.args.kept.now.parts answers types v c.args.to c.args.table.now.handles) v (has w view)
-          (received_serves (length c.args.memory.now) (map kind_of c.args.slots.now) giver c.args.found.now c.args.kept.now answers types v c.args.to c.args.table.now.handles c.give.new.table.handles c.give.new.numbers.items can settled gave w c.args.memory.now c.copy_call.new.memory view encoding c.copy_call.ensures.stays refl c.requires.few gave.sound) none;
+          (received_serves (length c.args.memory.now) (map kind_of c.args.slots.now) giver c.args.found.now c.args.kept.now answers types v c.args.to c.args.table.now.handles c.give.new.table.handles c.give.new.numbers.items can settled gave w c.args.memory.now c.copy_passed.new.memory view encoding c.copy_passed.ensures.stays refl c.requires.few gave.sound) none;
       framed = stored.1;
       gives = subst (λ ls. Gives c.args.to c.args.table.now.handles c.give.new.table.handles ls c.give.new.numbers.items) can.found.handles gave;
       apart = clear;

@@ -4,7 +4,7 @@ ghost use Rattle.std.specs.Prelude.{◌≡◌, ◌*◌, ◌-◌, ◌^◌, ◌<�
 ghost use Rattle.std.specs.Prelude.{if◌then◌else◌, pos};
 ghost use Rattle.cm_abi_model.specs.Numbers.{as_signed};
 ghost use Rattle.cm_abi_model.specs.Stores.{from_signed};
-ghost use Rattle.cm_abi_copy.specs.Shown.{leaf_shown};
+ghost use Rattle.cm_abi_putting.specs.Shown.{leaf_shown};
 ghost use Rattle.cm_abi_load.specs.Sized.{IsNumberSize, IsSizedLeaf, core_size};
 ghost use Rattle.cm_abi_store.specs.Storing.{number_in};
 

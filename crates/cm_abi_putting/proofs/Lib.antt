@@ -1,0 +1,3 @@
+pub mod LeafLemmas
+pub mod PuttingLemmas
+pub mod PuttingFlatLemmas
