@@ -16,10 +16,11 @@ ghost use Rattle.cm_types.specs.declared.limits.TheConstants.{MAX_FLAT_PARAMS};
 ghost use Rattle.cm_machine_parts.specs.Lends.{NoneAbove};
 ghost use Rattle.cm_machine_calls.specs.Going.{LiftsOrStops};
 
-use crate::link::{encodings_of, layout_of};
+use crate::link::{checks_of, encodings_of, layout_of};
 use crate::traps::trap_of;
 use cm_abi::laws::one_copied_call;
-use cm_abi::{Passed, Scan, Way, scan};
+use cm_abi::{Passed, Scan, Way};
+use cm_abi_copy::scan_by;
 use cm_abi_requests::requesting_laws::records_ask_for_parts;
 use cm_handles::Table;
 use cm_machine_model::Trap;
@@ -64,7 +65,9 @@ pub(crate) fn scan_flat_values(
     are_bytes(memory);
     let layout = layout_of(link, way);
     let passed = Passed { way, layout, slots };
-    match scan(alloc, kept, memory, table, encodings_of(link, way), &passed) {
+    let encodings = encodings_of(link, way);
+    let checks = checks_of(link, way);
+    match scan_by(alloc, kept, memory, table, encodings, &passed, checks) {
         Ok(()) => Ok(()),
         Err(fault) => Err(trap_of(fault)),
     }

@@ -4,7 +4,11 @@ ghost use Rattle.std.specs.Prelude.{◌≡◌, ◌<◌, IfSome, length};
 ghost use Rattle.cm_layout.specs.Layouts.{layout_of};
 ghost use Rattle.cm_layout.specs.Shapes.{layout_of_fields_at};
 ghost use Rattle.cm_abi_model.specs.Receives.{call_kinds};
+ghost use Rattle.cm_abi_model.specs.Views.{flat_limit};
 ghost use Rattle.cm_abi_model.specs.Ways.{way_of};
+ghost use Rattle.cm_abi_programs.specs.CallPuts.{call_puts_in, call_puts_of};
+ghost use Rattle.cm_abi_programs.specs.Checks.{passed_checks_of};
+ghost use Rattle.cm_abi_programs.specs.Coded.{checks_in};
 ghost use Rattle.cm_abi_slots.specs.Steps.{AreStepsOf};
 ghost use Rattle.cm_machine_model.specs.Plan.{Link as RulesLink, giver_side, receiver_side};
 ghost use Rattle.cm_machine_model.specs.Plan.{types_of};
@@ -14,6 +18,7 @@ ghost use Rattle.cm_machine_parts.specs.Links.{IsLinkOf, ArePassed};
 
 use cm_abi::{Receiver, Way};
 use cm_abi_model::Encodings;
+use cm_abi_programs::{CallPuts, Check};
 use cm_abi_slots::SlotStep;
 use cm_layout::Layout;
 use cm_machine_model::state::{Call, Frame, Phase, Purpose};
@@ -60,6 +65,26 @@ pub(crate) fn steps_of(link: &Link, way: Way) -> Option<&[SlotStep]>
         Some(steps) => Some(steps.as_slice()),
         None => None,
     }
+}
+
+/// What has to be looked at in it, where it is given.
+pub(crate) fn checks_of(link: &Link, way: Way) -> &[Check]
+    ensures { (l : RulesLink) → IsLinkOf l link.now
+        → checks_in result.now ≡ passed_checks_of (flat_limit (way_of way))
+        (layout_of_fields_at (types_of l (way_of way))) }
+{
+    let types = types_of(link, way);
+    types.checks.as_slice()
+}
+
+/// What has to be written of it, where it is received.
+pub(crate) fn puts_of(link: &Link, way: Way) -> &CallPuts
+    ensures { (l : RulesLink) → IsLinkOf l link.now
+        → call_puts_in result.now ≡ call_puts_of (flat_limit (way_of way))
+        (layout_of_fields_at (types_of l (way_of way))) }
+{
+    let types = types_of(link, way);
+    &types.puts
 }
 
 /// How strings are encoded by who gives what is passed that way, and by who receives it.

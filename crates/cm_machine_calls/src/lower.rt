@@ -7,8 +7,10 @@ ghost use Rattle.cm_types.specs.CoreValues.{kind_of};
 ghost use Rattle.cm_types.specs.Types.{Fields};
 ghost use Rattle.cm_types.specs.Values.{Val};
 ghost use Rattle.cm_abi_model.specs.Copies.{IsFaultOfCopying, handles_of_values};
-ghost use Rattle.cm_abi_model.specs.Views.{View};
+ghost use Rattle.cm_abi_model.specs.Views.{View, flat_limit};
 ghost use Rattle.cm_abi_model.specs.Ways.{way_of};
+ghost use Rattle.cm_abi_programs.specs.CallPuts.{call_puts_in, call_puts_of};
+ghost use Rattle.cm_layout.specs.Layouts.{layout_of};
 ghost use Rattle.cm_machine_model.specs.Memories.{memory_at};
 ghost use Rattle.cm_abi_copy.specs.Copies.{IsCopied};
 ghost use Rattle.cm_machine_calls.specs.Handing.{CanBeCopied, CanCopy, IsCopiedIn};
@@ -20,10 +22,12 @@ ghost use Rattle.cm_machine_parts.specs.Kept.{AreBorrowsCounted, CanEnd};
 ghost use Rattle.cm_machine_parts.specs.States.{state_of};
 ghost use Rattle.cm_machine_calls.specs.Going.{CanBeLowered, LowersOrStops};
 
-use crate::link::{kinds_of, layout_of};
+use crate::link::{kinds_of, layout_of, puts_of};
 use crate::traps::trap_of;
-use cm_abi::{AbiFault, Found, HandleLeaf, Passed, Receiver, Scan, Way, copy};
+use cm_abi::{AbiFault, Found, HandleLeaf, Passed, Receiver, Scan, Way};
+use cm_abi_copy::copy_by;
 use cm_abi_lower::borrowed_count;
+use cm_abi_programs::CallPuts;
 use cm_abi_requests::requesting_laws::records_ask_for_parts;
 use cm_handles::Table;
 use cm_handles::laws::{borrows_are_counted, tables_change_in_one_place};
@@ -54,8 +58,9 @@ fn put_zeros(kinds: &[CoreKind], values: &mut Flat)
     }
 }
 
-/// Copies a value that was scanned in one memory into another, and puts the core values that pass
-/// it, of these kinds, into `values`. Else nothing is changed but `values` and the room of lists.
+/// Copies a value that was scanned in one memory into another, by what has to be written of it, and
+/// puts the core values that pass it, of these kinds, into `values`. Else nothing is changed but
+/// `values` and the room of lists.
 fn copy_into(
     kept: &mut Scan,
     from: &[u8],
@@ -64,11 +69,14 @@ fn copy_into(
     to: Receiver,
     passed: &Passed<'_>,
     kinds: &[CoreKind],
+    puts: &CallPuts,
     values: &mut Flat,
 ) -> Result<(), AbiFault>
     requires copied { CanBeCopied from.now (length bytes.old.items) passed.now kinds.now kept.old }
     requires few { length bytes.old.items ≤ MAX_MEMORY_SIZE }
     requires kinds { length kinds.now ≤ MAX_FLAT_PARAMS }
+    requires puts { call_puts_in puts.now ≡ call_puts_of
+        (flat_limit (way_of passed.now.way)) (layout_of passed.now.layout.now) }
     ensures copied { (view : View) (answers : List ℕ) (types : Fields) (v : Val)
         → CanCopy view from.now (length bytes.old.items) passed.now kinds.now kept.old answers
         types v
@@ -87,7 +95,7 @@ fn copy_into(
         memory: from,
         passed: *passed,
     };
-    copy(kept, bytes, table, values.as_mut_slice(), to, &found)
+    copy_by(kept, bytes, table, values.as_mut_slice(), to, &found, puts)
 }
 
 /// Copies a value that was scanned in the memory of its giver to its receiver. The receiver's
@@ -101,6 +109,7 @@ pub(crate) fn copy_between(
     to: Receiver,
     passed: &Passed<'_>,
     kinds: &[CoreKind],
+    puts: &CallPuts,
     values: &mut Flat,
 ) -> Result<(), AbiFault>
     requires copied { CanBeCopied (memory_at memories.old giver)
@@ -109,6 +118,8 @@ pub(crate) fn copy_between(
     requires giver { giver < length memories.old }
     requires receiver { to.instance < length memories.old }
     requires kinds { length kinds.now ≤ MAX_FLAT_PARAMS }
+    requires puts { call_puts_in puts.now ≡ call_puts_of
+        (flat_limit (way_of passed.now.way)) (layout_of passed.now.layout.now) }
     ensures copied { (view : View) (answers : List ℕ) (types : Fields) (v : Val)
         → CanCopy view (memory_at memories.old giver)
         (length (memory_at memories.old to.instance)) passed.now kinds.now kept.old answers
@@ -127,7 +138,9 @@ pub(crate) fn copy_between(
     let Some(from) = memories.get(giver as usize) else {
         unreachable!()
     };
-    let copied = copy_into(kept, from, &mut bytes, table, to, passed, kinds, values);
+    let copied = copy_into(
+        kept, from, &mut bytes, table, to, passed, kinds, puts, values,
+    );
     memories.put(receiver, bytes);
     copied
 }
@@ -192,6 +205,7 @@ fn move_to_receiver(
     records_ask_for_parts();
     let layout = layout_of(link, way);
     let kinds = kinds_of(link, way);
+    let puts = puts_of(link, way);
     let passed = Passed {
         way,
         layout,
@@ -201,7 +215,7 @@ fn move_to_receiver(
     let table = &mut state.tables[to.instance as usize];
     let memories = &mut state.memories;
     match copy_between(
-        alloc, kept, memories, giver, table, to, &passed, kinds, values,
+        alloc, kept, memories, giver, table, to, &passed, kinds, puts, values,
     ) {
         Ok(()) => {}
         Err(fault) => return Err(trap_of(fault)),

@@ -1,5 +1,5 @@
 -- The plan of a set is as its components write it.
-use Rattle.std.proofs.Common.{◌≡◌, ◌∙◌, ◌<◌, ◌≤◌, ◌+◌, ℕ, zero, suc, List, [], ◌∷◌, ◌++◌, length, map, Bool, true, false, Option, Some, None, is_some, refl, ap, sym, subst, arith, inl, inr, ◌⊎◌, slice_get, option_and_then}
+use Rattle.std.proofs.Common.{◌≡◌, ◌∙◌, ◌<◌, ◌≤◌, ℕ, zero, suc, List, [], ◌∷◌, ◌++◌, length, map, Bool, true, false, Option, Some, None, is_some, refl, ap, sym, subst, arith, inl, inr, ◌⊎◌, slice_get, option_and_then}
 use Rattle.std.specs.Prelude.{◌&&◌, Contains, cond, nat_le, unwrap_or, filter, slice_index_or}
 use Rattle.std.specs.List.{AllByRecursion, flat_map}
 use Rattle.std.specs.Option.{option_or}

@@ -1,7 +1,8 @@
 //! What each core function of a linked set comes to, with layouts, found once.
 //!
-//! The layouts and core kinds of what a function passes are made once for each type of a function,
-//! with each resource what it is in the end, and shared by all links of the type.
+//! The layouts and core kinds of what a function passes, and what has to be looked at and written
+//! of it, are made once for each type of a function, with each resource what it is in the end, and
+//! shared by all links of the type.
 #![tactic(auto)]
 
 mod core_funcs;

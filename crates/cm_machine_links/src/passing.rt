@@ -12,6 +12,10 @@ ghost use Rattle.cm_types_arena.specs.Replaced.{Standing, replaced_func};
 ghost use Rattle.cm_layout_placed.specs.Placed.{first_kinds, kinds_in, layouts_in, types_by};
 ghost use Rattle.cm_abi_model.specs.Views.{flat_limit};
 ghost use Rattle.cm_abi_model.specs.Ways.{way_of};
+ghost use Rattle.cm_abi_programs.specs.CallPuts.{call_puts_in, call_puts_of};
+ghost use Rattle.cm_abi_programs.specs.Checks.{passed_checks_of};
+ghost use Rattle.cm_abi_programs.specs.Coded.{checks_in};
+ghost use Rattle.cm_abi_placed.specs.Placed.{AreProgramsOf};
 ghost use Rattle.cm_abi_slots.specs.Steps.{steps_for};
 ghost use Rattle.cm_machine_parts.specs.Links.{ArePassed};
 ghost use Rattle.cm_machine_links.specs.Standing.{AreCallTypes, IsCallTypes, IsSpelled};
@@ -19,6 +23,7 @@ ghost use Rattle.cm_machine_links.specs.Standing.{first_flat, most_flat, passed_
 ghost use Rattle.cm_machine_links.specs.Standing.{passed_nodes};
 
 use cm_abi_model::Way;
+use cm_abi_placed::{CallProgram, PlacedPrograms};
 use cm_abi_slots::{SlotStep, slot_steps};
 use cm_layout::Layout;
 use cm_layout_placed::{Kinds, Layouts};
@@ -140,18 +145,48 @@ fn listed_steps(
     slot_steps(alloc, layout, way.flat_limit())
 }
 
+/// What has to be looked at, and what has to be written, of what a function passes that way, which
+/// has this layout as a tuple.
+fn tuple_program(
+    alloc: Global,
+    way: Way,
+    types: &Types,
+    programs: &PlacedPrograms,
+    layout: &Layout,
+    func: usize,
+) -> Result<CallProgram, AllocError>
+    requires there { func < length (funcs_of types.now) }
+    requires tuple { (s : Standing) × AreProgramsOf (types_by s (types_of types.now)) programs.now
+        × (layout_of layout.now ≡ layout_of_fields_at
+        (passed_fields (replaced_func s (func_at (funcs_of types.now) func)) (way_of way))) }
+    ensures checks { IfOk result (λ p. checks_in p.checks.items
+        ≡ passed_checks_of (flat_limit (way_of way)) (layout_of layout.now)) }
+    ensures puts { IfOk result (λ p. call_puts_in p.puts
+        ≡ call_puts_of (flat_limit (way_of way)) (layout_of layout.now)) }
+{
+    let limit = way.flat_limit();
+    match way {
+        Way::Params => programs.params(alloc, types, layout, func, limit),
+        Way::Results => programs.result(alloc, types, layout, func, limit),
+    }
+}
+
 /// What a function passes that way.
 fn passing(
     alloc: Global,
     way: Way,
     types: &Types,
     layouts: &Layouts,
+    programs: &PlacedPrograms,
     kinds: &Kinds,
     func: usize,
 ) -> Result<PassedTypes, AllocError>
     requires there { func < length (funcs_of types.now) }
     requires laid { (s : Standing)
         × (layouts_in layouts.now ≡ map layout_at (types_by s (types_of types.now))) }
+    requires programs { (s : Standing)
+        → layouts_in layouts.now ≡ map layout_at (types_by s (types_of types.now))
+        → AreProgramsOf (types_by s (types_of types.now)) programs.now }
     requires kinds { kinds_in kinds.now ≡ map first_kinds (types_of types.now) }
     ensures { IfOk result (λ p. (s : Standing)
         → layouts_in layouts.now ≡ map layout_at (types_by s (types_of types.now))
@@ -165,10 +200,13 @@ fn passing(
     let kinds = passed_kinds(alloc, spilled, flat)?;
     let nodes = node_count(way, types, func);
     let steps = listed_steps(alloc, way, &layout, nodes)?;
+    let program = tuple_program(alloc, way, types, programs, &layout, func)?;
     Ok(PassedTypes {
         layout,
         kinds,
         steps,
+        checks: program.checks,
+        puts: program.puts,
     })
 }
 
@@ -198,12 +236,16 @@ fn call_types_at(
     alloc: Global,
     types: &Types,
     layouts: &Layouts,
+    programs: &PlacedPrograms,
     kinds: &Kinds,
     func: usize,
 ) -> Result<CallTypes, AllocError>
     requires there { func < length (funcs_of types.now) }
     requires laid { (s : Standing)
         × (layouts_in layouts.now ≡ map layout_at (types_by s (types_of types.now))) }
+    requires programs { (s : Standing)
+        → layouts_in layouts.now ≡ map layout_at (types_by s (types_of types.now))
+        → AreProgramsOf (types_by s (types_of types.now)) programs.now }
     requires kinds { kinds_in kinds.now ≡ map first_kinds (types_of types.now) }
     ensures passes { IfOk result (λ t. (s : Standing)
         → layouts_in layouts.now ≡ map layout_at (types_by s (types_of types.now))
@@ -212,8 +254,8 @@ fn call_types_at(
 {
     params_are_spellable(types, func);
     result_is_spellable(types, func);
-    let params = passing(alloc, Way::Params, types, layouts, kinds, func)?;
-    let results = passing(alloc, Way::Results, types, layouts, kinds, func)?;
+    let params = passing(alloc, Way::Params, types, layouts, programs, kinds, func)?;
+    let results = passing(alloc, Way::Results, types, layouts, programs, kinds, func)?;
     let has_pointer = is_spilled(&results.layout, MAX_FLAT_RESULTS);
     Ok(CallTypes {
         params,
@@ -233,10 +275,11 @@ pub(crate) fn call_types<R: Replacement>(
         AreCallTypes (R.replacement by.now) (funcs_of types.now) ts.items) }
 {
     let layouts = Layouts::of_replaced(alloc, types, by)?;
+    let programs = PlacedPrograms::of(alloc, types, &layouts)?;
     let kinds = Kinds::of(alloc, types)?;
     let mut all = Vec::with_capacity(alloc, types.func_count())?;
     for func in 0..types.func_count() {
-        let one = call_types_at(alloc, types, &layouts, &kinds, func)?;
+        let one = call_types_at(alloc, types, &layouts, &programs, &kinds, func)?;
         all.push(Rc::new(alloc, one)?)?;
     }
     Ok(all)

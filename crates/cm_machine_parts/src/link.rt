@@ -1,6 +1,7 @@
 //! What a lowered function comes to.
 
 use cm_abi_model::StringEncoding;
+use cm_abi_programs::{CallPuts, Check};
 use cm_abi_slots::SlotStep;
 use cm_layout::Layout;
 use cm_types::CoreKind;
@@ -16,6 +17,10 @@ pub struct PassedTypes {
     pub kinds: Vec<CoreKind>,
     /// What each of these core values becomes, where they are numbers alone, which pass at once.
     pub steps: Option<Vec<SlotStep>>,
+    /// What has to be looked at in the values, where they are given.
+    pub checks: Vec<Check>,
+    /// What has to be written of the values, where they are received.
+    pub puts: CallPuts,
 }
 
 /// What a function passes.

@@ -6,7 +6,9 @@ use Rattle.cm_abi_model.specs.Giving.{Gives}
 use Rattle.cm_abi_model.specs.HandleLeaves.{leaves_of}
 use Rattle.cm_abi_model.specs.Receives.{HandleLeaf}
 use Rattle.cm_abi_model.specs.Scanned.{Scanned}
+use Rattle.cm_abi_model.specs.Views.{flat_limit}
 use Rattle.cm_abi_model.specs.Ways.{way_of}
+use Rattle.cm_abi_programs.specs.CallPuts.{call_puts_of}
 use Rattle.cm_abi_model.specs.declared.receiver.Receiver.{Receiver}
 use Rattle.cm_machine_model.specs.declared.event.Trap.{Trap}
 use Rattle.cm_machine_model.specs.Memories.{memory_at}
@@ -66,6 +68,11 @@ pub copy_between-requires-clause-kinds : goal.copy_between-requires-clause-kinds
 copy_between-requires-clause-kinds c =
     let x = c.requires.on in
     omega (arith, ap length (c.kinds_of-kinds.ensures x.1 x.5), few_kinds (way_of c.args.way) (types_of x.1 (way_of c.args.way)))
+
+pub copy_between-requires-clause-puts : goal.copy_between-requires-clause-puts
+copy_between-requires-clause-puts c =
+    let x = c.requires.on in
+    c.puts_of-puts.ensures x.1 x.5 ∙ ap (call_puts_of (flat_limit (way_of c.args.way))) (sym (c.layout_of-layout.ensures x.1 x.5))
 
 pub returns-in-Err-clause-unchanged : goal.returns-in-Err-clause-unchanged
 returns-in-Err-clause-unchanged c =
