@@ -7,15 +7,13 @@ use crate::explaining::run_explain;
 use crate::objects::{checked_object, tell_fit};
 use crate::stubbing::run_stub;
 use cm_hux_call::run_call;
-use cm_hux_core::{core_objects, core_text};
-use cm_hux_live::run_live;
+use cm_hux_json::{core_objects, core_text, signature_objects};
 use cm_hux_play::files::{
     Asked, Ending, Escaped, Fault, Files, Loaded, Streams, ToolFault, load_file, report, tell,
     tell_bytes, tell_fault,
 };
-use cm_hux_play::run_play;
+use cm_hux_play::{run_live, run_play};
 use cm_hux_show::{ShowFault, show_world};
-use cm_hux_signatures::signature_objects;
 use cm_hux_words::{Answer, ConformWords, Habits, Request, WordsFault};
 use cm_types_signatures::Signature;
 use cm_validate_functions::Functions;

@@ -1,6 +1,6 @@
 //! The lines of a drive that trapped.
 
-use crate::rows::traps::TRAP;
+use crate::rows::traps::trap_rows;
 use cm_machine_model::{Move, Trap};
 use cm_tool_text::Escaped;
 use std::io::Write;
@@ -18,15 +18,24 @@ pub struct LastMove<'a> {
     pub made: &'a Move,
 }
 
+/// The address of a write of many bytes, and how many they are.
+fn long_write(made: &Move) -> Option<(u32, usize)> {
+    let Move::Write { at, bytes } = made else {
+        return None;
+    };
+    if bytes.len() > MAX_BYTES {
+        Some((*at, bytes.len()))
+    } else {
+        None
+    }
+}
+
 /// The move as a script has it; of a write of many bytes only how many they are.
 impl fmt::Display for LastMove<'_> {
     fn fmt<W: fmt::Write>(&self, f: &mut fmt::Formatter<W>) -> fmt::Result {
-        match self.made {
-            Move::Write { at, bytes } if bytes.len() > MAX_BYTES => {
-                let count = bytes.len();
-                write!(f, "write {at} of {count} bytes")
-            }
-            made => write!(f, "{made}"),
+        match long_write(self.made) {
+            Some((at, count)) => write!(f, "write {at} of {count} bytes"),
+            None => write!(f, "{}", self.made),
         }
     }
 }
@@ -39,7 +48,7 @@ pub fn explain_trap<E: Write>(err: &mut E, trap: Trap, last: LastMove<'_>) -> io
         "trapped: component {instance} ({component}) made \"{last}\": {trap:?}"
     )?;
     let number = trap.number() as u32;
-    match TRAP.iter().find(|row| row.number == number) {
+    match trap_rows().iter().find(|row| row.number == number) {
         Some(row) => {
             writeln!(err, ": {}", row.meaning)?;
             writeln!(err, "usual cause: {}", row.cause)

@@ -7,8 +7,8 @@ ghost use Rattle.cm_hux_files.specs.Endings.{ending_status, fault_status};
 ghost use Rattle.cm_hux_files.specs.declared.fault.Fault.TheVariants as fault;
 
 use crate::ending::Ending;
+use crate::trouble::Trouble;
 use cm_binary_model::LimitFault;
-use cm_hux_bundles::Trouble;
 use cm_shims::{FitFault, PlainFault};
 use cm_stubs::StubFault;
 use cm_tool::{Fault as ToolFault, FileReason};

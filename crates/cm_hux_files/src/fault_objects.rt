@@ -1,7 +1,7 @@
 //! Faults as objects.
 
 use crate::fault::Fault;
-use cm_hux_bundles::Trouble;
+use crate::trouble::Trouble;
 use cm_hux_json::{Object, Value, first_word};
 use cm_stubs::StubFault;
 use cm_tool::{BadFile, Fault as ToolFault, FileReason, LinkFault, Unfit, UnfitReason, ValidFault};

@@ -1,4 +1,4 @@
-//! What the commands of `hux` share: files, faults, endings, and who watches a play.
+//! What the commands of `hux` share: files, bundles, faults, endings, and who watches a play.
 //!
 //! Each reads component files that may have shims, as the standard tool chain writes them.
 #![tactic(auto)]
@@ -6,13 +6,18 @@
 mod ending;
 mod fault;
 mod fault_objects;
+mod left_open;
 mod loading;
+mod making;
 mod sets;
 mod stop;
 mod streams;
+mod taking;
+mod trouble;
+mod type_imports;
 mod watcher;
 
-pub use cm_hux_bundles::{Bundle, made, open_imports, read_bundle, write_arguments};
+pub use cm_bundle::Bundle;
 pub use cm_hux_json::{Object, ToValue, Value, event_object, line_of};
 pub use cm_stubs::{Component, StubFault, caller, caller_for, provider_for};
 pub use cm_tool::{
@@ -27,10 +32,13 @@ pub use cm_validate_functions::Functions;
 pub use ending::Ending;
 pub use fault::{Fault, report};
 pub use fault_objects::{fault_object, tell, tell_bytes, tell_fault};
+pub use left_open::open_imports;
 pub use loading::{
     Loaded, LoadedFiles, kept, load_bytes, load_file, load_files, of_file, read_bytes,
 };
+pub use making::{made, write_arguments};
 pub use sets::make_set;
 pub use stop::{Stop, told};
 pub use streams::{DiskStreams, Streams, create, write_file, write_whole};
+pub use taking::read_bundle;
 pub use watcher::Watcher;

@@ -7,9 +7,9 @@ ghost use Rattle.cm_shims_plain.specs.Reading.{IsReadAs, outcome};
 ghost use Rattle.cm_shims.specs.Fitting.{AllHold};
 
 use crate::fault::Fault;
+use crate::taking::{PART_NAMES, bundle_in, check_links};
 use cm_binary_forms::DecodeFault;
 use cm_binary_model::Component;
-use cm_hux_bundles::{PART_NAMES, bundle_in, check_links};
 use cm_shims::{Place, ShimFault, Shimmed, fits, read};
 use cm_tool::{
     BadFile, Checked, Fault as ToolFault, FileReason, Files, LinkFault, Linked, MAX_COMPONENTS,

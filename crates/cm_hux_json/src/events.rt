@@ -3,7 +3,7 @@
 use crate::objects::Object;
 use cm_machine_model::{Event, Trap};
 use cm_types::CoreValue;
-use serde_json::{Value, json};
+use serde_json::Value;
 use std::alloc::{AllocError, Global};
 
 /// An event as an object: its word as the member `event`, and what it says.
@@ -13,7 +13,7 @@ use std::alloc::{AllocError, Global};
 pub fn event_object(alloc: Global, event: &Event) -> Result<Value, AllocError> {
     match event {
         Event::Done => word(alloc, "done"),
-        Event::Grown(pages) => json!(in alloc; {"event": "grown", "pages": *pages}),
+        Event::Grown(pages) => grown(alloc, *pages),
         Event::Enter {
             instance,
             func,
@@ -42,7 +42,12 @@ pub fn event_object(alloc: Global, event: &Event) -> Result<Value, AllocError> {
 
 /// An event that says no more than its word.
 fn word(alloc: Global, event: &str) -> Result<Value, AllocError> {
-    json!(in alloc; {"event": event})
+    Ok(Object::new(alloc).with("event", event)?.value())
+}
+
+fn grown(alloc: Global, pages: Option<u32>) -> Result<Value, AllocError> {
+    let object = Object::new(alloc).with("event", "grown")?;
+    Ok(object.with("pages", pages)?.value())
 }
 
 /// A core function of an instance begins, with these values.
@@ -52,18 +57,15 @@ fn called(
     (instance, func): (u32, u32),
     values: &[CoreValue],
 ) -> Result<Value, AllocError> {
-    let values = core_values(alloc, values)?;
-    json!(in alloc; {
-        "event": event,
-        "instance": instance,
-        "func": func,
-        "values": values
-    })
+    let object = Object::new(alloc).with("event", event)?;
+    let object = object.with("instance", instance)?.with("func", func)?;
+    Ok(object.with("values", core_values(alloc, values)?)?.value())
 }
 
 fn resumed(alloc: Global, instance: u32, values: &[CoreValue]) -> Result<Value, AllocError> {
-    let values = core_values(alloc, values)?;
-    json!(in alloc; {"event": "resume", "instance": instance, "values": values})
+    let object = Object::new(alloc).with("event", "resume")?;
+    let object = object.with("instance", instance)?;
+    Ok(object.with("values", core_values(alloc, values)?)?.value())
 }
 
 fn trapped(alloc: Global, trap: Trap) -> Result<Value, AllocError> {
@@ -73,7 +75,7 @@ fn trapped(alloc: Global, trap: Trap) -> Result<Value, AllocError> {
 
 /// Core values in order: `{"i32":41}`, and of 64 bits a text, `{"i64":"41"}`, since many readers
 /// keep but 53 bits of a number.
-pub fn core_values(alloc: Global, values: &[CoreValue]) -> Result<Value, AllocError> {
+fn core_values(alloc: Global, values: &[CoreValue]) -> Result<Value, AllocError> {
     let mut list = Vec::with_capacity(alloc, values.len())?;
     for value in values {
         list.push(core_value(alloc, *value)?)?;
@@ -82,11 +84,13 @@ pub fn core_values(alloc: Global, values: &[CoreValue]) -> Result<Value, AllocEr
 }
 
 fn core_value(alloc: Global, value: CoreValue) -> Result<Value, AllocError> {
-    match value {
-        CoreValue::I32(number) => json!(in alloc; {"i32": number}),
+    let object = Object::new(alloc);
+    let object = match value {
+        CoreValue::I32(number) => object.with("i32", number)?,
         CoreValue::I64(number) => {
             let digits = format!(in alloc; "{number}")?;
-            json!(in alloc; {"i64": digits})
+            object.with("i64", digits)?
         }
-    }
+    };
+    Ok(object.value())
 }

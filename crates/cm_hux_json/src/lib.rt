@@ -1,9 +1,24 @@
-//! JSON as `hux` writes it: objects that are made member by member, and events as objects.
+//! JSON as `hux` writes it: objects that are made member by member.
+//!
+//! Events are such objects, and what a component or a world imports and exports, and core
+//! functions, which stand in lines of text too.
 #![tactic(auto)]
 
+mod core_funcs;
+mod core_lines;
+mod core_rows;
 mod events;
+mod externs;
+mod met;
+mod names;
+mod numbered;
 mod objects;
+mod types;
 
-pub use events::{core_values, event_object};
+pub use core_funcs::core_objects;
+pub use core_lines::core_text;
+pub use core_rows::{CoreRow, core_row};
+pub use events::event_object;
+pub use externs::signature_objects;
 pub use objects::{Object, first_word, line_of};
 pub use serde_json::{ToValue, Value};

@@ -1,8 +1,26 @@
-//! `hux play`: a script is played on a linked set, and told as its words want it.
+//! `hux play` and `hux live`: a linked set is played, and told as the words of a command want it.
+//!
+//! Watchers print the events of a play, or what components say to one another: as lines, objects or
+//! a diagram, in the words of Mermaid.
 #![tactic(auto)]
 
+mod charted;
+mod diagram;
+mod graph;
+mod living;
+mod mirrored;
+mod named;
+mod overhearing;
 mod playing;
+mod said_chart;
+mod said_lines;
+mod said_objects;
+mod telling;
+mod told_events;
 mod told_play;
 
-pub use cm_hux_told::{component_names, files, write_graph};
+pub use cm_hux_files as files;
+pub use graph::write_graph;
+pub use living::run_live;
+pub use named::component_names;
 pub use playing::run_play;

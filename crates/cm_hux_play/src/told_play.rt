@@ -1,8 +1,13 @@
 //! A play, printed in one of several forms.
 
-use cm_hux_drive::files::{Ending, Linked, Set, Stop, Watcher, tell_bytes, told};
+use crate::diagram::Diagram;
+use crate::said_chart::SaidChart;
+use crate::said_objects::SaidObjects;
+use crate::telling::Telling;
+use crate::told_events::ToldEvents;
 use cm_hux_drive::{HuxScript, play_script};
-use cm_hux_told::{Diagram, SaidChart, SaidObjects, Telling, ToldEvents, Watch};
+use cm_hux_files::{Ending, Linked, Set, Stop, Watcher, tell_bytes, told};
+use cm_hux_said::Watch;
 use cm_hux_words::Habits;
 use std::alloc::Global;
 use std::io;

@@ -124,15 +124,39 @@ fn request_of<'a>(alloc: Global, matches: &ArgMatches<'a>) -> Result<Request<'a>
         Some(("show", found)) => show(alloc, found),
         Some(("core", found)) => core(alloc, found),
         Some(("conform", found)) => conform(alloc, found),
-        Some(("link", found)) => link(alloc, found),
-        Some(("unbundle", found)) => unbundle(alloc, found),
-        Some(("plug", found)) => plug(alloc, found),
-        Some(("play", found)) => play(alloc, found),
-        Some(("call", found)) => call(alloc, found),
-        Some(("live", found)) => live(alloc, found),
-        Some(("stub", found)) => stub(alloc, found),
-        Some(("explain", found)) => explain(alloc, found),
-        Some(("diff", found)) => diff(alloc, found),
+        Some((name, found)) => request_of_many(alloc, name, found),
+        None => Err(no_command(alloc)),
+    }
+}
+
+/// What the words behind the name of a command ask for, which links files or compares them, or
+/// plays something.
+fn request_of_many<'a>(
+    alloc: Global,
+    name: &str,
+    found: &ArgMatches<'a>,
+) -> Result<Request<'a>, WordsFault> {
+    match name {
+        "link" => link(alloc, found),
+        "unbundle" => unbundle(alloc, found),
+        "plug" => plug(alloc, found),
+        "stub" => stub(alloc, found),
+        "diff" => diff(alloc, found),
+        _ => request_of_play(alloc, name, found),
+    }
+}
+
+/// What the words behind the name of a command ask for, which plays something, or explains it.
+fn request_of_play<'a>(
+    alloc: Global,
+    name: &str,
+    found: &ArgMatches<'a>,
+) -> Result<Request<'a>, WordsFault> {
+    match name {
+        "play" => play(alloc, found),
+        "call" => call(alloc, found),
+        "live" => live(alloc, found),
+        "explain" => explain(alloc, found),
         _ => Err(no_command(alloc)),
     }
 }

@@ -59,7 +59,8 @@ enum HuxKind {
     /* A component does not fit a world, at the world's export `place`: the number of a
      * `ConformReason`. Of an item of an instance, `item` is its place there, else `SIZE_MAX`. */
     HUX_KIND_WORLD_EXPORT = 9,
-    /* The same at the component's import `place`. */
+    /* A component does not fit a world, at the component's import `place`: the number of a
+     * `ConformReason`; `item` as above. */
     HUX_KIND_OWN_IMPORT = 10,
     /* A component is not shown: the number of a `ShowFault`. */
     HUX_KIND_SHOW = 11,
@@ -335,9 +336,10 @@ HuxVerdict hux_conform(
  * file before that serves it.
  *
  * The answer is HUX_KIND_FINE, and `text` has a line for each import, which says what serves it:
- * the number of its file, its name, ` <- `, and the same of the export. Else the answer is the
- * first fault, of a part, of a file, or of a link, which `text` shows. As many bytes of the text
- * as there is room for are written, and `wanted` says how many it has. */
+ * the number of the import's file, its name, ` <- `, the number of the export's file, and its
+ * name. Else the answer is the first fault, of a part, of a file, or of a link, which `text`
+ * shows. As many bytes of the text as there is room for are written, and `wanted` says how many
+ * it has. */
 HuxVerdict hux_link(
     const uint8_t *bytes,
     size_t bytes_length,

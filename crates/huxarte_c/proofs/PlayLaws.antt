@@ -7,9 +7,9 @@ use Rattle.cm_validate_model.specs.Spaces.{Spaces}
 use Rattle.huxarte_c.specs.declared.playing.PlayRefusal.{PlayRefusal}
 use Rattle.huxarte_c.specs.declared.playing.PlayRefusal.TheVariants as refusal
 use Rattle.huxarte_c.specs.Playing.{IsPlayOutcome, IsSpansRefusal, IsUnplayed, IsUnplayedOf}
-use Rattle.huxarte_c_commands.proofs.LinkLaws.{part_refused, stop_is}
-use Rattle.huxarte_c_commands.specs.Linking.{AreLinked, spaces_read}
-use Rattle.huxarte_c_commands.specs.declared.linking.LinkRefusal.TheVariants as link
+use Rattle.huxarte_c_components.proofs.LinkLaws.{part_refused, stop_is}
+use Rattle.huxarte_c_components.specs.Linking.{AreLinked, spaces_read}
+use Rattle.huxarte_c_components.specs.declared.linking.LinkRefusal.TheVariants as link
 use Rattle.huxarte_c_parts.specs.declared.spans.HuxSpan.{HuxSpan}
 use Rattle.huxarte_c_parts.specs.Spans.{AreWithin, parts_of}
 

@@ -5,9 +5,9 @@ use Rattle.cm_match_model.specs.Links.{CanBeLinked}
 use Rattle.cm_validate_model.specs.Spaces.{Spaces}
 use Rattle.huxarte_c.specs.declared.playing.PlayRefusal.{PlayRefusal}
 use Rattle.huxarte_c.specs.declared.playing.PlayRefusal.TheVariants as refusal
-use Rattle.huxarte_c_commands.specs.Linking.{AreLinked, IsLinkRefusal, IsPartsRefusal, IsUnlinked}
-use Rattle.huxarte_c_commands.specs.Linking.{of_link}
-use Rattle.huxarte_c_commands.specs.declared.linking.LinkRefusal.TheVariants as link
+use Rattle.huxarte_c_components.specs.Linking.{AreLinked, IsLinkRefusal, IsPartsRefusal, IsUnlinked}
+use Rattle.huxarte_c_components.specs.Linking.{of_link}
+use Rattle.huxarte_c_components.specs.declared.linking.LinkRefusal.TheVariants as link
 use Rattle.huxarte_c_parts.specs.declared.kinds.HuxKind.TheVariants as kind
 use Rattle.huxarte_c_parts.specs.declared.spans.HuxSpan.{HuxSpan}
 use Rattle.huxarte_c_parts.specs.declared.verdicts.HuxVerdict.{HuxVerdict}
@@ -32,17 +32,17 @@ abbrev pub IsUnplayed : List Spaces → PlayRefusal → Type 0
 IsUnplayed set (refusal.Link r) = IsUnlinked set r
 IsUnplayed set _ = CanBeLinked set
 
--- the same of the components of files
+-- the components of files
 abbrev pub IsUnplayedOf : List (List ℕ) → PlayRefusal → Type 0
 IsUnplayedOf files (refusal.Link r) = IsLinkRefusal files r
 IsUnplayedOf files _ = AreLinked files
 
--- the same of files that are parts of bytes, one of which may pass their end
+-- and of files that are parts of bytes, one of which may pass their end
 abbrev pub IsSpansRefusal : List ℕ → List HuxSpan → PlayRefusal → Type 0
 IsSpansRefusal bytes spans (refusal.Link r) = IsPartsRefusal bytes spans r
 IsSpansRefusal bytes spans _ = AreWithin bytes spans × AreLinked (parts_of bytes spans)
 
--- the same where the script is a part, too
+-- and where the script is a part, too
 abbrev pub IsPlayRefusal : List ℕ → List HuxSpan → HuxSpan → PlayRefusal → Type 0
 IsPlayRefusal bytes spans script (refusal.Link link.Outside) =
     AreWithin bytes (script ∷ spans) → ⊥

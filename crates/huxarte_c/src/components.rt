@@ -1,14 +1,13 @@
 //! Components by the bytes of their files.
 
-ghost use Rattle.huxarte_c_commands.specs.Fitting.{IsFitVerdict};
-ghost use Rattle.huxarte_c_commands.specs.Linking.{IsLinkVerdict};
-ghost use Rattle.huxarte_c_commands.specs.Showing.{IsShownVerdict};
+ghost use Rattle.huxarte_c_components.specs.Fitting.{IsFitVerdict};
+ghost use Rattle.huxarte_c_components.specs.Linking.{IsLinkVerdict};
+ghost use Rattle.huxarte_c_components.specs.Showing.{IsShownVerdict};
 ghost use Rattle.huxarte_c_components.specs.Laying.{IsLayoutVerdict};
 ghost use Rattle.huxarte_c_components.specs.Sound.{IsFileVerdict};
 ghost use Rattle.huxarte_c_parts.specs.Texts.{IsText};
 
-use huxarte_c_commands::{conform, link_files, show};
-use huxarte_c_components::{check, lay};
+use huxarte_c_components::{check, conform, lay, link_files, show};
 use huxarte_c_nodes::HuxNode;
 use huxarte_c_parts::{HuxSpan, HuxVerdict};
 use std::alloc::Global;
@@ -72,9 +71,9 @@ pub extern "C" fn hux_conform(
 /// file before that serves it.
 ///
 /// The answer is `Fine`, and `text` has a line for each import, which says what serves it: the
-/// number of its file, its name, ` <- `, and the same of the export. Else the answer is the first
-/// fault, of a part, of a file, or of a link, which `text` shows. As many bytes of the text as
-/// there is room for are written, and `wanted` says how many it has.
+/// number of the import's file, its name, ` <- `, the number of the export's file, and its name.
+/// Else the answer is the first fault, of a part, of a file, or of a link, which `text` shows. As
+/// many bytes of the text as there is room for are written, and `wanted` says how many it has.
 #[unsafe(no_mangle)]
 pub extern "C" fn hux_link(
     alloc: Global,

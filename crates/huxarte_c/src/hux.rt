@@ -4,7 +4,7 @@ ghost use Rattle.huxarte_c_parts.specs.Texts.{IsText};
 
 use crate::streams::GivenStreams;
 use cm_hux::run_hux;
-use huxarte_c_commands::{Command, HuxFile};
+use huxarte_c_components::{Command, HuxFile};
 use huxarte_c_parts::{CommandFault, HuxEnd, HuxSpan, Printed};
 use std::alloc::Global;
 

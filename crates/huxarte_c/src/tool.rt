@@ -3,7 +3,7 @@
 ghost use Rattle.huxarte_c_parts.specs.Texts.{IsText};
 
 use cm_tool::tool;
-use huxarte_c_commands::{Command, HuxFile};
+use huxarte_c_components::{Command, HuxFile};
 use huxarte_c_parts::{CommandFault, HuxEnd, HuxSpan, Printed};
 use std::alloc::Global;
 

@@ -78,7 +78,7 @@ pub record Room : Type 0 where
   pub numbers : List ℕ
 
 -- Values were copied into rooms of C's: the slots have the numbers of the core values that pass
--- them, and as many of the numbers of their handles as there is room for are told.
+-- them, and as many of the numbers of their handles as there is room for are written.
 pub record AreDelivered (c : Call) (to : Receiver) (types : Fields) (v : Val) (rs : List Request)
     (handles : List HuxHandle) (answers : List ℕ) (before after : Room) (wanted : ℕ)
     : Type 0 where

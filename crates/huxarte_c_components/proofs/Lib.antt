@@ -1,2 +1,4 @@
 mod FuncLaws
+pub mod LinkLaws
 mod OnlyLaws
+mod SoundLaws

@@ -30,7 +30,7 @@ abbrev pub IsNoFunc : Spaces → ℕ → FuncFault → Type 0
 IsNoFunc s index func_fault.NoFunc = HasNone s index
 IsNoFunc s index func_fault.Memory = ⊤
 
--- what is told of that
+-- the fault under which C knows that
 abbrev pub told_of : FuncFault → ComponentFault
 told_of func_fault.NoFunc = fault.NoFunc
 told_of func_fault.Memory = fault.Memory

@@ -13,18 +13,18 @@ use Rattle.huxarte_c_nodes.specs.Laying.{node_by}
 use Rattle.huxarte_c_parts.specs.declared.verdicts.HuxVerdict.{HuxVerdict}
 use Rattle.huxarte_c_parts.specs.Verdicts.{fine}
 
--- why nothing is told of the type that a path leads to from a function
+-- why there is no layout of the type that a path leads to from a function
 abbrev pub IsNoNode : FuncTy → ℕ → List ℕ → ComponentFault → Type 0
 IsNoNode f way path fault.NoPart = node_by f way path ≡ None
 IsNoNode f way path fault.Memory = ⊤
 IsNoNode f way path _ = ⊥
 
--- what is told of the type that a path leads to from the function of an index of a component
+-- the layout, as numbers, of the type that a path leads to from a component's function
 abbrev pub IsNodeIn : Spaces → ℕ → ℕ → List ℕ → HuxNode → Type 0
 IsNodeIn s func way path node =
     (f : FuncTy) × HasType s func f × (node_by f way path ≡ Some node)
 
--- why nothing is told of it
+-- why there is none
 abbrev pub IsNoNodeIn : Spaces → ℕ → ℕ → List ℕ → ComponentFault → Type 0
 IsNoNodeIn s func way path fault.NoFunc = HasNone s func
 IsNoNodeIn s func way path fault.NoPart =
@@ -32,7 +32,7 @@ IsNoNodeIn s func way path fault.NoPart =
 IsNoNodeIn s func way path fault.Memory = ⊤
 IsNoNodeIn s func way path _ = ⊥
 
--- the same of the component of a file
+-- both, of the component of a file
 abbrev pub IsNodeOf : List ℕ → ℕ → ℕ → List ℕ → HuxNode → Type 0
 IsNodeOf bytes func way path node =
     (f : FuncTy) × HasFunc bytes func f × (node_by f way path ≡ Some node)
@@ -45,7 +45,7 @@ IsNoNodeOf bytes func way path fault.NoPart =
 IsNoNodeOf bytes func way path fault.Memory = ⊤
 IsNoNodeOf bytes func way path _ = ⊥
 
--- a verdict, and what was told before and after: what a path leads to, or a refusal
+-- a verdict, and the numbers before and after: of what a path leads to, or unchanged by a refusal
 abbrev pub IsLayoutVerdict : List ℕ → ℕ → ℕ → List ℕ → HuxVerdict → HuxNode → HuxNode → Type 0
 IsLayoutVerdict bytes func way path v before after =
     (IsNodeOf bytes func way path after × (v ≡ fine))

@@ -1,22 +1,33 @@
-//! Components by the bytes of their files: checked, laid out, and called.
+//! Components by the bytes of their files: checked, shown, linked, laid out, and called.
 //!
-//! Whether a file is a valid component, how the types of its functions lie, what passing the
-//! parameters of a call asks for, and the parameters copied.
+//! Whether a file is a valid component, and fits a world; how the types of its functions lie, what
+//! passing the parameters of a call asks for, and the parameters copied. The words and the files of
+//! a command that is handed over are parts of the bytes.
 #![tactic(auto)]
 
 mod calling;
 mod checking;
+mod command;
+mod conforming;
 mod copying;
 mod fault;
 mod func_type;
+mod given;
 mod laying;
+mod linking;
 mod requesting;
+mod showing;
 mod sound;
 
 pub use calling::call_of;
 pub use checking::{check, files_verdict};
+pub use command::Command;
+pub use conforming::conform;
 pub use copying::copy;
 pub use fault::ComponentFault;
+pub use given::{Given, HuxFile};
 pub use laying::lay;
+pub use linking::{LinkRefusal, files_of, link_files};
 pub use requesting::ask;
+pub use showing::show;
 pub use sound::{check_one, read_one};

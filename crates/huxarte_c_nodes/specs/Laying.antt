@@ -9,6 +9,6 @@ abbrev pub type_by : FuncTy → ℕ → Option Ty
 type_by f way =
     if way == 0 then Some (fields tuple_type f.params) else (if way == 1 then f.result else None)
 
--- what is told of the type that a path leads to from there
+-- the layout, as numbers, of the type that a path leads to from there
 abbrev pub node_by : FuncTy → ℕ → List ℕ → Option HuxNode
 node_by f way path = option_and_then (λ t. node_at t path) (type_by f way)

@@ -1,5 +1,5 @@
 -- The types in a type, and how each lies in memory and in core values (CanonicalABI.md,
--- "Alignment", "Element Size" and "Flattening"; that they are told by numbers is this project's own
+-- "Alignment", "Element Size" and "Flattening"; that they are numbered is this project's own
 -- choice).
 use Rattle.std.specs.Prelude.{ℕ, zero, suc, ◌+◌, List, [], ◌∷◌, length, Option, None, Some}
 use Rattle.std.specs.Prelude.{◌==◌, if◌then◌else◌, option_and_then, option_map}
@@ -48,7 +48,7 @@ abbrev pub part_along : List ℕ → PlacedTy → Option PlacedTy
 part_along [] p = Some p
 part_along (n ∷ path) p = option_and_then (part_along path) (part_of p.1 n)
 
--- ---- what is told of a type
+-- ---- the numbers of a type
 
 -- the number by which a sort is known
 abbrev pub sort_number : HuxSort → ℕ

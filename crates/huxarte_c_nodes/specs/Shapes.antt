@@ -1,4 +1,4 @@
--- What is told of a layout, which is that of the type that it is the layout of (`Nodes`).
+-- The numbers of a layout: those of the type whose layout it is (`Nodes`).
 use Rattle.std.specs.Prelude.{ℕ, zero, suc, List, [], ◌∷◌, Option, None, Some}
 use Rattle.std.specs.Prelude.{◌==◌, if◌then◌else◌, option_and_then, option_map}
 use Rattle.cm_layout.specs.Shapes.{LayoutTy, Shape, Parts, Payloads, leaf_shape, string_shape}

@@ -35,7 +35,7 @@ fn layout_by(alloc: Global, func: &Func, way: u32) -> Result<Option<Layout>, All
     }
 }
 
-/// What is told of a type of a function, in memory and in core values (CanonicalABI.md,
+/// The layout, as numbers, of a type of a function, in memory and in core values (CanonicalABI.md,
 /// "Alignment", "Element Size" and "Flattening").
 ///
 /// `way` is 0 for the tuple of its parameters, or 1 for its result. The path leads from there to

@@ -127,7 +127,7 @@ fn count(layout: &Layout) -> usize
     }
 }
 
-/// What is told of a type that stands there in the one that holds it.
+/// The numbers of a type at an offset in the one that holds it, in bytes or in core values.
 fn node(offset: u32, layout: &Layout) -> HuxNode
     ensures { result ≡ node_in (offset, layout_of layout.now) }
 {
@@ -174,7 +174,7 @@ fn carried_at(payloads: &[Payload], number: usize) -> Option<&Layout>
     }
 }
 
-/// The same, where payloads stand there.
+/// The payload of a case among those that stand at an offset, with this offset.
 fn case_at(offset: u32, payloads: &[Payload], number: usize) -> Option<(u32, &Layout)>
     ensures { option_map (λ p. (p.0, layout_of p.1.now)) result
         ≡ case_at offset
@@ -218,7 +218,7 @@ fn follow(layout: &Layout, path: &[u32]) -> Option<HuxNode>
     Some(node(offset, found))
 }
 
-/// What is told of the type that a path leads to from one with this layout.
+/// The numbers of the type that a path leads to from one with this layout.
 pub(crate) fn node_at(layout: &Layout, path: &[u32]) -> Option<HuxNode>
     ensures { (t : Ty) → layout_of layout.now ≡ layout_at t → result ≡ node_at t path.now }
 {

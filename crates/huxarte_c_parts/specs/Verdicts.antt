@@ -40,7 +40,7 @@ abbrev pub at_item : HuxKind → ℕ → ℕ → ℕ → ℕ → HuxVerdict
 at_item k reason file place item =
     record { kind = kind_number k; reason = reason; file = file; place = place; item = item }
 
--- what is wrong, of which no more is told
+-- what is wrong, with no reason and no place
 abbrev pub of_kind : HuxKind → HuxVerdict
 of_kind k = at_item k 0 0 0 0
 

@@ -29,7 +29,8 @@ pub enum HuxKind {
     /// A component does not fit a world, at the world's export `place`: the number of a
     /// `ConformReason`. Of an item of an instance, `item` is its place there, else `SIZE_MAX`.
     WorldExport = 9,
-    /// The same at the component's import `place`.
+    /// A component does not fit a world, at the component's import `place`: the number of a
+    /// `ConformReason`; `item` as above.
     OwnImport = 10,
     /// A component is not shown: the number of a `ShowFault`.
     Show = 11,

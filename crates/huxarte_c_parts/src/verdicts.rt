@@ -34,7 +34,7 @@ impl HuxVerdict {
         }
     }
 
-    /// This is wrong, and no more is told of it.
+    /// This is wrong, with no reason and no place.
     pub fn of_kind(kind: HuxKind) -> HuxVerdict
         ensures { result ≡ of_kind kind }
     {

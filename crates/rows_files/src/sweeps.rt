@@ -105,7 +105,7 @@ fn read_line(alloc: Global, file: &[u8]) -> Line {
     line
 }
 
-/// The same of a file without shims.
+/// The line of a file without shims.
 fn decoded_line(alloc: Global, file: &[u8]) -> Line {
     let mut line = Line::new(alloc);
     match decode(alloc, file) {

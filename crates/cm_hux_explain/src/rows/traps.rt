@@ -7,10 +7,15 @@ use std::alloc::AllocError;
 
 /// Adds them to rows.
 pub(crate) fn add(rows: &mut Vec<Row>) -> Result<(), AllocError> {
-    rows.extend_from_slice(&TRAP)?;
+    rows.extend_from_slice(trap_rows())?;
     rows.extend_from_slice(&MISUSE)?;
     rows.extend_from_slice(&HANDLE_FAULT)?;
     Ok(())
+}
+
+/// The rows of `Trap`, in one place, so that they are proved once.
+pub(crate) fn trap_rows() -> &'static [Row] {
+    &TRAP
 }
 
 /// The rows of `Trap`.

@@ -1,7 +1,7 @@
 use Rattle.std.proofs.Common.{ap, map}
 use Rattle.cm_shims.specs.Files.{reading_of}
 use Rattle.cm_validate_model.specs.Spaces.{spaces_of}
-use Rattle.huxarte_c_commands.proofs.LinkLaws.{linked_is}
+use Rattle.huxarte_c_components.proofs.LinkLaws.{linked_is}
 use Rattle.huxarte_c.proofs.PlayLaws.{unplayed_is}
 use Rattle.huxarte_c.proofs.playing.play_read.Goals as goal
 

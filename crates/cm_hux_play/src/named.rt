@@ -1,0 +1,17 @@
+//! The names of components.
+
+use cm_hux_files::LoadedFiles;
+use cm_hux_said::component_name;
+use std::alloc::{AllocError, Global};
+
+/// The names of the components of files.
+pub fn component_names<'b>(
+    alloc: Global,
+    loaded: &'b LoadedFiles<'_>,
+) -> Result<Vec<&'b str>, AllocError> {
+    let mut names = Vec::with_capacity(alloc, loaded.files().len())?;
+    for file in loaded.files() {
+        names.push(component_name(file.name))?;
+    }
+    Ok(names)
+}

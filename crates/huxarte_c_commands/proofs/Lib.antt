@@ -1,2 +1,0 @@
-pub mod LinkLaws
-mod SoundLaws

@@ -1,0 +1,165 @@
+//! Whether the components of files link.
+
+ghost use Rattle.std.specs.Prelude.{◌≡◌, IfErr, IfOk, List, OnOk, map, ℕ};
+ghost use Rattle.cm_match_model.specs.Links.{CanBeLinked};
+ghost use Rattle.cm_match_serving.specs.Sets.{set_of};
+ghost use Rattle.cm_shims.specs.Files.{AreRead, reading_of};
+ghost use Rattle.huxarte_c_components.specs.Linking.{AreLinked, IsLinkRefusal, IsLinkVerdict};
+ghost use Rattle.huxarte_c_components.specs.Linking.{IsPartsRefusal, IsUnlinked, of_link};
+ghost use Rattle.huxarte_c_components.specs.declared.linking.LinkRefusal.TheVariants as refusal;
+ghost use Rattle.huxarte_c_parts.specs.Spans.{AreWithin, parts_of};
+ghost use Rattle.huxarte_c_parts.specs.Texts.{IsText};
+
+use crate::checking::files_verdict;
+use cm_match::{Checked, LinkFault, Linked, link};
+use cm_shims::{FilesFault, Shimmed, check_files, read_files};
+use cm_tool_lines::write_plan;
+use huxarte_c_parts::{HuxKind, HuxSpan, HuxVerdict, PartsFault, parts, write_shown, write_text};
+use std::alloc::Global;
+use std::fmt;
+
+/// Why the components of files do not link.
+#[derive(Clone, Copy)]
+pub enum LinkRefusal {
+    /// A part of the bytes passes their end.
+    Outside,
+    /// A file stands for no valid component, or not for what its shims say.
+    Files(FilesFault),
+    /// The components can't be linked.
+    Link(LinkFault),
+    /// There was no memory.
+    Memory,
+}
+
+impl LinkRefusal {
+    /// The refusal in numbers.
+    pub fn verdict(self) -> HuxVerdict
+        ensures { result ≡ of_link self }
+    {
+        match self {
+            LinkRefusal::Outside => HuxVerdict::of_kind(HuxKind::Outside),
+            LinkRefusal::Files(fault) => files_verdict(fault),
+            LinkRefusal::Link(fault) => {
+                let number = fault.reason.number();
+                HuxVerdict::at_item(HuxKind::Link, number, fault.component, 0, fault.import)
+            }
+            LinkRefusal::Memory => HuxVerdict::of_kind(HuxKind::Memory),
+        }
+    }
+}
+
+impl fmt::Display for LinkRefusal {
+    fn fmt<W: fmt::Write>(&self, f: &mut fmt::Formatter<W>) -> fmt::Result {
+        match self {
+            LinkRefusal::Outside => f.write_str("a part passes the end of the bytes"),
+            LinkRefusal::Files(fault) => write!(f, "{fault}"),
+            LinkRefusal::Link(fault) => write!(f, "{fault}"),
+            LinkRefusal::Memory => f.write_str("no memory"),
+        }
+    }
+}
+
+/// The lines of the plan of linked components.
+fn lines(alloc: Global, linked: &Linked<'_>) -> Result<Vec<u8>, LinkRefusal>
+    ensures { IfErr result (λ r. r ≡ refusal.Memory) }
+{
+    let mut lines = Vec::new(alloc);
+    match write_plan(&mut lines, linked) {
+        Ok(()) => Ok(lines),
+        Err(_) => Err(LinkRefusal::Memory),
+    }
+}
+
+/// The lines of the plan by which these components link.
+fn plan_of(alloc: Global, components: Vec<Checked<'_>>) -> Result<Vec<u8>, LinkRefusal>
+    ensures linked { OnOk result (CanBeLinked (set_of components.entry.items)) }
+    ensures refused { IfErr result (IsUnlinked (set_of components.entry.items)) }
+{
+    match link(alloc, components) {
+        Ok(linked) => lines(alloc, &linked),
+        Err(fault) => Err(LinkRefusal::Link(fault)),
+    }
+}
+
+/// The lines of the plan by which the components link that files are read as.
+fn plan_of_read(alloc: Global, files: &[Shimmed]) -> Result<Vec<u8>, LinkRefusal>
+    ensures linked { (bytes : List (List ℕ)) → AreRead bytes (map reading_of files.now)
+        → OnOk result (AreLinked bytes) }
+    ensures refused { (bytes : List (List ℕ)) → AreRead bytes (map reading_of files.now)
+        → IfErr result (IsLinkRefusal bytes) }
+{
+    match check_files(alloc, files) {
+        Ok(checked) => plan_of(alloc, checked),
+        Err(fault) => Err(LinkRefusal::Files(fault)),
+    }
+}
+
+/// The lines of the plan by which the components of files link.
+fn plan(alloc: Global, files: &[&[u8]]) -> Result<Vec<u8>, LinkRefusal>
+    ensures linked { OnOk result (AreLinked (map (λ f. f.now) files.now)) }
+    ensures refused { IfErr result (IsLinkRefusal (map (λ f. f.now) files.now)) }
+{
+    match read_files(alloc, files) {
+        Ok(components) => plan_of_read(alloc, &components),
+        Err(fault) => Err(LinkRefusal::Files(fault)),
+    }
+}
+
+/// The files that are parts of some bytes.
+pub fn files_of<'a>(
+    alloc: Global,
+    bytes: &'a [u8],
+    spans: &[HuxSpan],
+) -> Result<Vec<&'a [u8]>, LinkRefusal>
+    ensures parts { IfOk result (λ ps.
+        map (λ p. p.now) ps.items ≡ parts_of bytes.now spans.now) }
+    ensures within { OnOk result (AreWithin bytes.now spans.now) }
+    ensures refused { IfErr result (IsPartsRefusal bytes.now spans.now) }
+{
+    match parts(alloc, bytes, spans) {
+        Ok(files) => Ok(files),
+        Err(PartsFault::Outside) => Err(LinkRefusal::Outside),
+        Err(PartsFault::Memory) => Err(LinkRefusal::Memory),
+    }
+}
+
+/// The lines of the plan by which the components of files link that are parts of some bytes.
+fn plan_of_parts(alloc: Global, bytes: &[u8], spans: &[HuxSpan]) -> Result<Vec<u8>, LinkRefusal>
+    ensures within { OnOk result (AreWithin bytes.now spans.now) }
+    ensures linked { OnOk result (AreLinked (parts_of bytes.now spans.now)) }
+    ensures refused { IfErr result (IsPartsRefusal bytes.now spans.now) }
+{
+    match files_of(alloc, bytes, spans) {
+        Ok(files) => plan(alloc, &files),
+        Err(refusal) => Err(refusal),
+    }
+}
+
+/// Links the components of files, each a part of the bytes: each import to the only export of a
+/// file before that serves it.
+///
+/// The answer is `Fine`, and `text` has a line for each import, which says what serves it: the
+/// number of the import's file, its name, ` <- `, the number of the export's file, and its name.
+/// Else the answer is the first fault, of a part, of a file, or of a link, which `text` shows. As
+/// many bytes of the text as there is room for are written, and `wanted` says how many it has.
+pub fn link_files(
+    alloc: Global,
+    bytes: &[u8],
+    files: &[HuxSpan],
+    text: &mut [u8],
+    wanted: &mut usize,
+) -> HuxVerdict
+    ensures verdict { IsLinkVerdict bytes.now files.now result }
+    ensures text { IsText text.old wanted.new text.new }
+{
+    match plan_of_parts(alloc, bytes, files) {
+        Ok(lines) => {
+            *wanted = write_text(text, &lines);
+            HuxVerdict::fine()
+        }
+        Err(refusal) => {
+            *wanted = write_shown(alloc, text, &refusal);
+            refusal.verdict()
+        }
+    }
+}
