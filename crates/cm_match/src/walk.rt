@@ -70,7 +70,7 @@ fn import_count(linking: &Linking<'_, '_>, component: usize) -> usize
 }
 
 /// Adds the lines of a component's imports, up to the first that is not served.
-fn walk_component(
+fn walk_imports(
     alloc: Global,
     linking: &Linking<'_, '_>,
     judged: &mut Judged,
@@ -98,6 +98,33 @@ fn walk_component(
         }
     }
     Ok(())
+}
+
+/// Makes room for the lines of a component's imports, and adds them, up to the first that is not
+/// served.
+fn walk_component(
+    alloc: Global,
+    linking: &Linking<'_, '_>,
+    judged: &mut Judged,
+    plan: &mut Vec<PlanLine>,
+    component: usize,
+) -> Result<(), LinkFault>
+    requires known { AreJudged (components_in linking.now) judged.old }
+    requires there { component < length (components_in linking.now) }
+    requires before { HasServed (set_in linking.now) component 0 plan.old.items }
+    ensures served { OnOk result (HasServed (set_in linking.now) (component + 1) 0
+        plan.new.items) }
+    ensures fault { IfErr result (λ f. IsWalkFault (set_in linking.now) f) }
+    ensures known { OnOk result (AreJudged (components_in linking.now) judged.new) }
+{
+    match plan.reserve(import_count(linking, component)) {
+        Ok(()) => walk_imports(alloc, linking, judged, plan, component),
+        Err(AllocError) => Err(LinkFault {
+            component,
+            import: 0,
+            reason: LinkReason::Memory,
+        }),
+    }
 }
 
 /// The plan of a set, or its first import that is not served.

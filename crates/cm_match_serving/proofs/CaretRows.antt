@@ -15,7 +15,6 @@ use Rattle.cm_match_model.proofs.Carets.{allows_is, caret_at, caret_numbers, of_
 use Rattle.cm_match_serving.specs.contracts.series.KindOrd.TheImpl as kind_ord
 use Rattle.cm_match_serving.specs.declared.series.Kind.TheVariants as kind
 use Rattle.cm_match_serving.specs.Readings.{fits_read, is_below, is_in_row, is_prerelease, leading, prereleases_row, releases_row, row_cmp, row_of, unversioned_row, version_or_zero, Row}
-use Rattle.cm_match_model.specs.Fitting.{allows}
 use Rattle.cm_lemmas.proofs.Bools.{and_true}
 use Rattle.cm_lemmas.proofs.Orders.{same_number}
 

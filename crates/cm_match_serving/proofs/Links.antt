@@ -3,11 +3,9 @@ use Rattle.std.proofs.Common.{◌≡◌, ℕ, ◌<◌, List, [], ◌∷◌, Opti
 use Rattle.std.specs.Option.{option_map}
 use Rattle.cm_types.specs.Signatures.{NamedExtern}
 use Rattle.cm_match_model.specs.Fitting.{NamedExport, only}
-use Rattle.cm_match_model.specs.declared.candidates.Candidate.{Candidate}
 use Rattle.cm_match_model.specs.declared.candidates.Candidate.TheVariants as candidate
 use Rattle.cm_validate_model.specs.Spaces.{Spaces}
 use Rattle.cm_match_model.specs.Origins.{LeadEarlier}
-use Rattle.cm_match_model.specs.declared.component.Link.{Link}
 use Rattle.cm_match_model.specs.Imports.{candidates, import_at, import_in, link_of, links_of, only_link}
 use Rattle.cm_lemmas.proofs.Options.{some_is}
 

@@ -2,7 +2,7 @@
 use Rattle.std.specs.Prelude.{◌≡◌, ℕ, Bool, true, false, ◌&&◌, ◌==◌, List, []}
 use Rattle.std.specs.Prelude.{Option, Some, None}
 use Rattle.std.specs.Prelude.{filter, if◌then◌else◌, length, nat_lt, not}
-use Rattle.std.specs.Option.{option_map, option_map_or}
+use Rattle.std.specs.Option.{option_map_or}
 use Rattle.std.specs.Cmp.Lexicographic.{slice_cmp}
 use Rattle.std.specs.Ordering.{is_eq, is_lt, nat_cmp, ordering_then}
 use Rattle.std.specs.Result.{result_ok}
@@ -17,7 +17,7 @@ use Rattle.cm_match_serving.specs.contracts.series.KindOrd.TheImpl as kind_ord
 use Rattle.cm_match_serving.specs.contracts.series.SeriesOrd.TheImpl as series_ord
 use Rattle.cm_match_model.specs.Fitting.{NamedExport, allows, only}
 use Rattle.cm_match_model.specs.declared.candidates.Candidate.{Candidate}
-use Rattle.cm_match_serving.specs.declared.readings.Reading.{Reading}
+use Rattle.cm_match_serving.specs.declared.readings.Versioned.{Versioned}
 use Rattle.cm_match_serving.specs.declared.series.Kind.{Kind}
 use Rattle.cm_match_serving.specs.declared.series.Kind.TheVariants as kind
 use Rattle.cm_match_serving.specs.declared.series.Series.{Series}
@@ -40,9 +40,10 @@ pub record HasForm (name : List ℕ) : Type 0 where
   pub spelled : name_spelling tree ≡ name
   pub labels : HasLabels tree
 
--- what the code has read
-abbrev pub reading_view : Reading → List ℕ × Option Parts
-reading_view r = (string_bytes r.name, option_map parts_of r.version)
+-- what the code has read of a name: nothing, where it has no version
+abbrev pub reading_view : List ℕ → Option Versioned → List ℕ × Option Parts
+reading_view name None = (name, None)
+reading_view name (Some v) = (string_bytes v.name, Some (parts_of v.version))
 
 -- ---- versions
 

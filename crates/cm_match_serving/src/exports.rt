@@ -10,7 +10,7 @@ ghost use Rattle.cm_match_serving.specs.Readings.{name_read, row_of, series_orde
 ghost use Rattle.cm_match_serving.specs.ExportTables.{Answers, HasExports, IsAnswer};
 
 use crate::greatest::Greatest;
-use crate::readings::{Reading, read};
+use crate::readings::{Versioned, read};
 use crate::series::Series;
 use crate::unversioned::NameTable;
 use cm_match_model::Candidate;
@@ -81,6 +81,15 @@ impl Exports {
         }
     }
 
+    /// Makes room for so many exports more without a version. `AllocError` comes where there is no
+    /// memory for it. The exports are what they were.
+    pub(crate) fn reserve(&mut self, more: usize) -> Result<(), AllocError>
+        ensures { (exports : List NamedExport) → HasExports self.old exports
+            → HasExports self.new exports }
+    {
+        self.names.reserve(more)
+    }
+
     /// Adds the export of this number of a component, behind those that were added before.
     /// `AllocError` comes where there is no memory for it, and the exports are then what they were.
     pub fn add(
@@ -94,10 +103,9 @@ impl Exports {
         ensures err { OnErr result ((exports : List NamedExport) → HasExports self.old exports
             → HasExports self.new exports) }
     {
-        let Reading { name, version } = read(self.alloc, name)?;
-        match version {
-            None => self.names.add(name, component, export),
-            Some(version) => {
+        match read(self.alloc, name)? {
+            None => self.names.add(name.as_str(), component, export),
+            Some(Versioned { name, version }) => {
                 let series = series_of(name, &version);
                 add_versioned(&mut self.rows, series, version, component, export)
             }
@@ -138,10 +146,9 @@ impl Exports {
         ensures { IfOk result (λ c. (exports : List NamedExport) → HasExports self.now exports
             → c ≡ only (candidates exports wanted.now)) }
     {
-        let Reading { name, version } = read(alloc, wanted)?;
-        match version {
-            Some(version) => Ok(self.versioned(name, &version)),
-            None => Ok(self.names.candidate(name.as_str())),
+        match read(alloc, wanted)? {
+            Some(Versioned { name, version }) => Ok(self.versioned(name, &version)),
+            None => Ok(self.names.candidate(wanted.as_str())),
         }
     }
 }

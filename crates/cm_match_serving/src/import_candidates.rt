@@ -24,7 +24,7 @@ fn import_choices(
     ensures { IfOk result (λ choices. (before : List NamedExport) → HasExports exports.now before
         → choices.items ≡ map (λ i. only (candidates before i.name)) imports.now) }
 {
-    let mut choices = Vec::new(alloc);
+    let mut choices = Vec::with_capacity(alloc, imports.len())?;
     for import in imports {
         let choice = exports.candidate(alloc, &import.name)?;
         choices.push(choice)?;
@@ -42,6 +42,7 @@ fn add_exports(
         → HasExports exports.old before → HasExports exports.new
         (before ++ exports_from component 0 (map (export_def types funcs) entries.now))) }
 {
+    exports.reserve(entries.len())?;
     for (number, entry) in entries.iter().enumerate() {
         exports.add(entry.name, component, number)?;
     }
@@ -56,7 +57,7 @@ pub fn choices(alloc: Global, components: &[Checked<'_>]) -> Result<Vec<Vec<Cand
     ensures { IfOk result (λ rows. AreChoices (set_of components.now) rows.items) }
 {
     let mut exports = Exports::new(alloc);
-    let mut rows = Vec::new(alloc);
+    let mut rows = Vec::with_capacity(alloc, components.len())?;
     for (at, component) in components.iter().enumerate() {
         let row = import_choices(alloc, &exports, component.imports())?;
         rows.push(row)?;

@@ -2,7 +2,6 @@
 
 ghost use Rattle.std.specs.Prelude.{◌≡◌, IfOk, Some};
 ghost use Rattle.std.specs.Result.{result_ok};
-ghost use Rattle.std.specs.String.{string_bytes};
 ghost use Rattle.semver.specs.Identifiers.{parts_of};
 ghost use Rattle.semver.specs.Parse.{version_parts};
 ghost use Rattle.cm_match_serving.specs.Readings.{HasForm, name_read, reading_view};
@@ -11,11 +10,11 @@ use cm_types::{ExternName, ExternNameForm};
 use semver::Version;
 use std::alloc::{AllocError, Global};
 
-/// A name without its version, and the version, if it has one.
+/// The name of an interface without its version, and the version.
 #[derive(Drop)]
-pub(crate) struct Reading {
+pub(crate) struct Versioned {
     pub name: String,
-    pub version: Option<Version>,
+    pub version: Version,
 }
 
 /// Reads a text that is a version. `AllocError` comes where there is no memory for it.
@@ -25,9 +24,10 @@ fn read_version(alloc: Global, text: &str) -> Result<Version, AllocError>
     Version::parse(alloc, text).map_err(|_| AllocError)
 }
 
-/// Reads a name. `AllocError` comes where there is no memory for it.
-pub(crate) fn read(alloc: Global, name: &ExternName) -> Result<Reading, AllocError>
-    ensures read { IfOk result (λ r. reading_view r ≡ name_read name.now) }
+/// Reads a name: what it is without its version, where it has one. Of a name without a version
+/// nothing is copied. `AllocError` comes where there is no memory for it.
+pub(crate) fn read(alloc: Global, name: &ExternName) -> Result<Option<Versioned>, AllocError>
+    ensures read { IfOk result (λ r. reading_view name.now r ≡ name_read name.now) }
     ensures form { HasForm name.now }
 {
     match name.form() {
@@ -36,13 +36,10 @@ pub(crate) fn read(alloc: Global, name: &ExternName) -> Result<Reading, AllocErr
             package,
             interface,
             version: Some(version),
-        } => Ok(Reading {
+        } => Ok(Some(Versioned {
             name: format!(in alloc; "{namespace}:{package}/{interface}")?,
-            version: Some(read_version(alloc, version)?),
-        }),
-        _ => Ok(Reading {
-            name: String::from_str(alloc, name.as_str())?,
-            version: None,
-        }),
+            version: read_version(alloc, version)?,
+        })),
+        _ => Ok(None),
     }
 }

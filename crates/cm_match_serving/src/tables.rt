@@ -27,7 +27,7 @@ fn unknown(alloc: Global, count: usize) -> Result<Vec<KnownPlaced>, AllocError>
     ensures count { IfOk result (λ known. length known.items ≡ count) }
     ensures unknown { IfOk result (λ known. AreUnknown known.items) }
 {
-    let mut known = Vec::new(alloc);
+    let mut known = Vec::with_capacity(alloc, count)?;
     for _component in 0..count {
         known.push(KnownPlaced::new(alloc))?;
     }

@@ -1,7 +1,7 @@
 //! Tables of texts.
 
 ghost use Rattle.std.specs.Prelude.{◌≡◌, ◌++◌, ◌∷◌, ◌+◌, ◌*◌, ◌≤◌, [], ℕ, List, OnErr, OnOk};
-ghost use Rattle.std.specs.Prelude.{length, map};
+ghost use Rattle.std.specs.Prelude.{length, map, max};
 ghost use Rattle.std.specs.BTreeMap.{get_by_text};
 ghost use Rattle.std.specs.String.{string_bytes};
 ghost use Rattle.cm_names.specs.MarkedTexts.{IsTable, PutsLast, looked_up};
@@ -25,9 +25,12 @@ pub struct TextTable {
     rest: BTreeMap<String, usize>,
     /// How many texts there are to be when more places are made.
     next: usize,
+    /// How many texts room was asked for, at most.
+    room: usize,
     ghost is_table: { IsTable marks.items (map string_bytes texts.items) rest },
-    // Places cost what the texts do: eight for each at most, and 80 more.
-    ghost few: { length marks.items ≤ 8 * length texts.items + 80 },
+    // Places cost what the texts do, or those that room was asked for: eight for each at most, and
+    // 80 more.
+    ghost few: { length marks.items ≤ 8 * max (length texts.items) room + 80 },
 }
 
 /// The number of a text by its marks, or else by the tree.
@@ -97,6 +100,7 @@ impl TextTable {
             marks: Vec::new(alloc),
             rest: BTreeMap::new(alloc),
             next: 0,
+            room: 0,
         }
     }
 
@@ -115,11 +119,13 @@ impl TextTable {
         looked_up(&self.marks, &self.texts, &self.rest, text)
     }
 
-    /// Makes more places, so that a fourth of them at most is marked while the texts double.
-    fn widen(&mut self) -> Result<(), AllocError>
+    /// Makes places for so many texts, so that an eighth of them is marked then, and a fourth once
+    /// the texts have doubled.
+    fn widen(&mut self, texts: usize) -> Result<(), AllocError>
+        requires { texts ≤ max (length (texts_of self.old)) self.old.room }
         ensures { texts_of self.new ≡ texts_of self.old }
     {
-        let texts = self.texts.len().max(8);
+        let texts = texts.max(8);
         let size = texts.saturating_mul(8).saturating_add(16);
         if let Some(marks) = spread(self.alloc, &self.marks, &self.texts, size)? {
             self.marks = marks;
@@ -132,8 +138,25 @@ impl TextTable {
     fn make_room(&mut self) -> Result<(), AllocError>
         ensures { texts_of self.new ≡ texts_of self.old }
     {
-        if self.texts.len() >= self.next {
-            self.widen()?;
+        let texts = self.texts.len();
+        if texts >= self.next {
+            self.widen(texts)?;
+        }
+        Ok(())
+    }
+
+    /// Makes room for so many texts more, so that adding them makes none; where that makes places
+    /// at all, it makes as many as `add` would. `AllocError` comes where there is no memory for it.
+    /// The texts are what they were.
+    pub fn reserve(&mut self, more: usize) -> Result<(), AllocError>
+        ensures { texts_of self.new ≡ texts_of self.old }
+    {
+        self.texts.reserve(more)?;
+        let count = self.texts.len();
+        let texts = count.saturating_add(more);
+        self.room = self.room.max(texts);
+        if texts > self.next {
+            self.widen(count.max(texts / 2 + 1))?;
         }
         Ok(())
     }

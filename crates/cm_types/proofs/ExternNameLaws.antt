@@ -1,11 +1,12 @@
 -- The test for extern names agrees with the grammar, and the form of a name is spelled as the name.
+use Rattle.std.proofs.Common.{◌==◌, if◌then◌else◌}
 use Rattle.std.proofs.Common.{◌≡◌, ◌≢◌, ℕ, suc, true, false, nat_le, ◌⊎◌, IsTrue, List, [], ◌∷◌, ◌++◌, Option, Some, None, is_none, refl, sym, ap, ◌∙◌, inl, inr, arith, codes, append_assoc, append-nil}
 use Rattle.std.specs.List.{list_any}
 use Rattle.std.specs.Option.{option_map, option_map_or}
 use Rattle.std.proofs.lemmas.Bool.{eq-eqb, ne_eqb, cases_Bool, cases_eq, true≢false}
 use Rattle.cm_types.specs.declared.names.NameFault.{NameFault}
 use Rattle.cm_types.specs.declared.names.NameFault.TheVariants as fault
-use Rattle.cm_types.specs.Names.{IsLabel, label_fault}
+use Rattle.cm_types.specs.Names.{IsLabel, is_label, label_fault}
 use Rattle.cm_types.specs.NamesFaults.{fault_number}
 use Rattle.cm_types.specs.ExternNames.{NameTree, plain, method, static, constructor, interface, name_spelling, HasLabels, IsExternName, version_suffix, is_version, cut, cut_or_all, without_front, is_bracketed, is_interface_mark, member, interface_parts, interface_of, unannotated_form, form_of, least_fault, labels_fault, version_fault, version_of, parts_fault, extern_name_fault, is_extern_name}
 use Rattle.cm_types.proofs.Cuts.{Lacks, cut_at, cut_none}
@@ -21,6 +22,12 @@ first_is (b ∷ bs) l = (b, bs, refl, label_lacks 91 (b ∷ bs) refl (λ e. omeg
 -- a text that does not begin with a bracket has no annotation
 no_annotation : (b : ℕ) (bs : List ℕ) → b ≢ 91 → form_of (b ∷ bs) ≡ unannotated_form (b ∷ bs)
 no_annotation b bs n = rw (ne_eqb b 91 n) refl
+
+-- a text that does not begin with a bracket names an interface, by its marks, or is a label
+pub unbracketed : (text : List ℕ) → is_bracketed text ≡ false
+    → form_of text ≡ (if list_any is_interface_mark text then Some (interface_of text) else Some (plain text))
+unbracketed [] h = refl
+unbracketed (b ∷ bs) h = let e : (b == 91) ≡ false = h in rw e refl
 
 lacks_marks : (text : List ℕ) → Lacks 58 text → Lacks 47 text → Lacks 64 text → list_any is_interface_mark text ≡ false
 lacks_marks [] a b c = refl
@@ -115,6 +122,10 @@ fine_parts (interface ns pkg name (Some v)) h = fine_least _ _ (fine_labels (int
 -- what the grammar makes a name has no fault
 pub name_fine : (text : List ℕ) → IsExternName text → extern_name_fault text ≡ None
 name_fine text n = ap extern_name_fault (sym n.2) ∙ rw (form_again n.0 n.1) (fine_parts n.0 n.1)
+
+-- a label is a name as it stands
+pub label_is_name : (text : List ℕ) → is_label text ≡ true → extern_name_fault text ≡ None
+label_is_name text h = name_fine text (plain text, label_is text h, refl)
 
 -- ---- from the form to the spelling
 

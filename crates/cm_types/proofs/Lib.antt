@@ -3,6 +3,7 @@ pub mod Seen
 pub mod SpellableLemmas
 pub mod Cuts
 pub mod Labels
+pub mod LabelWalks
 pub mod ExternNameLaws
 pub mod ResourceLaws
 pub mod TypedValueLemmas

@@ -12,6 +12,7 @@ pub mod Values
 pub mod Funcs
 pub mod Signatures
 pub mod NamesFaults
+pub mod LabelWalks
 pub mod Names
 pub mod ExternNames
 pub mod ExternNameForms

@@ -1,7 +1,7 @@
 //! Extern names: the names of imports and exports, and of an instance's items.
 
 ghost use Rattle.std.specs.Prelude.{◌≡◌, IfOk, IfErr, ◌⊎◌, Some, None, ◌<◌, option_copied};
-ghost use Rattle.std.specs.Prelude.{[], Ok, Err};
+ghost use Rattle.std.specs.Prelude.{[], Err, Ok, false, true};
 ghost use Rattle.cm_types.specs.declared.names.NameFault.{NameFault};
 ghost use Rattle.std.specs.Option.{option_map};
 ghost use Rattle.std.specs.List.{list_any};
@@ -10,11 +10,12 @@ ghost use Rattle.cm_types.specs.ExternNames.{cut, cut_or_all, extern_name_fault,
 ghost use Rattle.cm_types.specs.ExternNames.{interface_of, interface_parts, is_bracketed};
 ghost use Rattle.cm_types.specs.ExternNames.{is_interface_mark, labels_fault};
 ghost use Rattle.cm_types.specs.ExternNames.{least_fault, member, method, parts_fault, static};
-ghost use Rattle.cm_types.specs.ExternNames.{name_spelling, unannotated_form, version_fault};
+ghost use Rattle.cm_types.specs.ExternNames.{name_spelling, version_fault};
 ghost use Rattle.cm_types.specs.ExternNames.{without_front};
 ghost use Rattle.cm_types.specs.ExternNames.{HasLabels, version_in, version_text};
 ghost use Rattle.cm_types.specs.ExternNameForms.{form_tree, pair_view};
 
+use crate::label_walk::is_label;
 use crate::names::{NameFault, label_fault};
 use crate::shared_text::SharedText;
 use crate::version::reads_as_version;
@@ -233,15 +234,16 @@ fn interface_of(text: &str) -> ExternNameForm<'_>
     }
 }
 
-fn unannotated_form(text: &str) -> Option<ExternNameForm<'_>>
-    ensures { option_map form_tree result ≡ unannotated_form text.now }
+/// The form of a text that does not begin with a bracket.
+#[tactic(auto, using(crate::proofs::ExternNameLaws::unbracketed))]
+fn plain_form(text: &str) -> ExternNameForm<'_>
+    requires { is_bracketed text.now ≡ false }
+    ensures { form_of text.now ≡ Some (form_tree result) }
 {
-    if is_bracketed(text) {
-        None
-    } else if has_interface_mark(text) {
-        Some(interface_of(text))
+    if has_interface_mark(text) {
+        interface_of(text)
     } else {
-        Some(ExternNameForm::Label(text))
+        ExternNameForm::Label(text)
     }
 }
 
@@ -259,17 +261,28 @@ fn static_of(text: &str) -> Option<ExternNameForm<'_>>
     Some(ExternNameForm::Static { resource, function })
 }
 
-fn form_of(text: &str) -> Option<ExternNameForm<'_>>
+/// The form of a text that begins with a bracket, if it has one of the three annotations.
+fn annotated_form(text: &str) -> Option<ExternNameForm<'_>>
+    requires { is_bracketed text.now ≡ true }
     ensures { option_map form_tree result ≡ form_of text.now }
 {
     if let Some(rest) = without_front(text, "[method]") {
         method_of(rest)
     } else if let Some(rest) = without_front(text, "[static]") {
         static_of(rest)
-    } else if let Some(resource) = without_front(text, "[constructor]") {
-        Some(ExternNameForm::Constructor { resource })
     } else {
-        unannotated_form(text)
+        let resource = without_front(text, "[constructor]")?;
+        Some(ExternNameForm::Constructor { resource })
+    }
+}
+
+fn form_of(text: &str) -> Option<ExternNameForm<'_>>
+    ensures { option_map form_tree result ≡ form_of text.now }
+{
+    if is_bracketed(text) {
+        annotated_form(text)
+    } else {
+        Some(plain_form(text))
     }
 }
 
@@ -314,10 +327,15 @@ fn parts_fault(alloc: Global, form: &ExternNameForm<'_>) -> Result<Option<NameFa
     }
 }
 
+/// Why a text is no extern name. Most names are labels, which have no other form to be read.
+#[tactic(auto, using(crate::proofs::ExternNameLaws::label_is_name))]
 fn extern_name_fault(alloc: Global, text: &str) -> Result<Option<NameFault>, AllocError>
     ensures value { IfOk result (λ f. f ≡ extern_name_fault text.now) }
     ensures exact { version_in text.now ≡ [] → result ≡ Ok (extern_name_fault text.now) }
 {
+    if is_label(text) {
+        return Ok(None);
+    }
     match form_of(text) {
         Some(form) => parts_fault(alloc, &form),
         None => Ok(Some(NameFault::BadAnnotation)),

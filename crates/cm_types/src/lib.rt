@@ -8,6 +8,7 @@ mod core_value;
 mod def_types;
 mod dismantling;
 mod extern_names;
+mod label_walk;
 pub mod laws;
 mod limits;
 mod names;

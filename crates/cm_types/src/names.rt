@@ -1,11 +1,10 @@
 //! Labels, and why a text is no name.
 
 ghost use Rattle.std.specs.Prelude.{◌≡◌, IfOk, IfErr, ◌⊎◌, Some};
-ghost use Rattle.std.specs.List.{list_all};
-ghost use Rattle.cm_types.specs.Names.{is_in_word, is_in_acronym, is_fragment, is_label};
-ghost use Rattle.cm_types.specs.Names.{is_same_name, label_fault};
+ghost use Rattle.cm_types.specs.Names.{is_label, is_same_name, label_fault};
 ghost use Rattle.cm_types.specs.NamesFaults.{fault_number};
 
+use crate::label_walk::is_label;
 use crate::shared_text::SharedText;
 use std::alloc::{AllocError, Global};
 use std::marker::Model;
@@ -126,38 +125,6 @@ pub fn same_name(a: &str, b: &str) -> bool
     ensures { result ≡ is_same_name a.now b.now }
 {
     a.eq_ignore_ascii_case(b)
-}
-
-fn goes_on_as_word(text: &[u8]) -> bool
-    ensures { result ≡ list_all is_in_word text.now }
-{
-    text.iter()
-        .all(|b| b.is_ascii_lowercase() || b.is_ascii_digit())
-}
-
-fn goes_on_as_acronym(text: &[u8]) -> bool
-    ensures { result ≡ list_all is_in_acronym text.now }
-{
-    text.iter()
-        .all(|b| b.is_ascii_uppercase() || b.is_ascii_digit())
-}
-
-fn is_fragment(text: &str) -> bool
-    ensures { result ≡ is_fragment text.now }
-{
-    match text.as_bytes() {
-        [] => false,
-        [first, rest @ ..] => {
-            (first.is_ascii_lowercase() && goes_on_as_word(rest))
-                || (first.is_ascii_uppercase() && goes_on_as_acronym(rest))
-        }
-    }
-}
-
-pub(crate) fn is_label(text: &str) -> bool
-    ensures { result ≡ is_label text.now }
-{
-    text.split('-').all(is_fragment)
 }
 
 pub(crate) fn label_fault(text: &str) -> Option<NameFault>

@@ -8,3 +8,4 @@ mod ExportLaws
 mod StayLaws
 mod GrowLaws
 mod LiftLaws
+pub mod RoomLaws

@@ -60,6 +60,28 @@ impl<'a> ComponentSpaces<'a> {
         }
     }
 
+    /// Makes room for so many more imports, of which so many are functions. `AllocError` comes if
+    /// there is no memory for it. The spaces stay as they are.
+    #[tactic(auto, using(crate::proofs::RoomLaws::same_stays))]
+    pub fn reserve_imports(&mut self, imports: usize, funcs: usize) -> Result<(), AllocError>
+        ensures { Stays self.old self.new }
+    {
+        self.funcs.reserve(funcs)?;
+        self.imports.reserve(imports)?;
+        self.import_names.reserve(imports)
+    }
+
+    /// Makes room for so many more exports, of which so many are functions. `AllocError` comes if
+    /// there is no memory for it. The spaces stay as they are.
+    #[tactic(auto, using(crate::proofs::RoomLaws::same_stays))]
+    pub fn reserve_exports(&mut self, exports: usize, funcs: usize) -> Result<(), AllocError>
+        ensures { Stays self.old self.new }
+    {
+        self.funcs.reserve(funcs)?;
+        self.exports.reserve(exports)?;
+        self.export_names.reserve(exports)
+    }
+
     /// Adds a function. `AllocError` comes where there is no memory for it; the spaces then stay as
     /// they are.
     pub(crate) fn push_func(&mut self, func: FuncEntry<'a>) -> Result<(), AllocError>

@@ -27,6 +27,10 @@ known_broken name s = unless (not (is_known s name)) reason.DuplicateName
 abbrev pub Knows : NameSet → List (List ℕ) → Type 0
 Knows s names = (name : List ℕ) → is_known s name ≡ list_any (is_same_name name) names
 
+-- a set has the names of an earlier one
+abbrev pub KnowsSame : NameSet → NameSet → Type 0
+KnowsSame old new = (name : List ℕ) → is_known new name ≡ is_known old name
+
 -- a set has the names of an earlier one, and these
 abbrev pub KnowsMore : NameSet → NameSet → List (List ℕ) → Type 0
 KnowsMore old new names =

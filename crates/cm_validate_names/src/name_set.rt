@@ -19,7 +19,8 @@ impl NameSet {
     ghost use Rattle.std.specs.Prelude.{◌≡◌, ◌++◌, ◌∷◌, [], OnErr, OnOk};
     ghost use Rattle.cm_validate_model.specs.Reasons.{least};
     ghost use Rattle.cm_validate_names.specs.Forms.{form_broken};
-    ghost use Rattle.cm_validate_names.specs.NameSets.{Knows, KnowsMore, known_broken, name_of};
+    ghost use Rattle.cm_validate_names.specs.NameSets.{Knows, KnowsMore, KnowsSame, known_broken};
+    ghost use Rattle.cm_validate_names.specs.NameSets.{name_of};
 
     /// No names.
     pub fn new(alloc: Global) -> NameSet
@@ -28,6 +29,14 @@ impl NameSet {
         NameSet {
             folded: TextTable::new(alloc),
         }
+    }
+
+    /// Makes room for so many names more. `AllocError` comes where there is no memory for it. The
+    /// names are what they were.
+    pub fn reserve(&mut self, more: usize) -> Result<(), AllocError>
+        ensures { KnowsSame self.old self.new }
+    {
+        self.folded.reserve(more)
     }
 
     /// Why a name of a function, or of an instance, is refused after these: `DuplicateName` where

@@ -12,6 +12,7 @@ mod index_spaces_items;
 mod items;
 mod made;
 mod parts;
+mod room;
 mod spaces;
 mod types;
 mod walk;

@@ -11,6 +11,7 @@ ghost use Rattle.cm_validate_model.specs.declared.fault.ValidReason.TheVariants 
 
 use crate::IndexSpaces;
 use crate::items::{add_item, item_at, item_count};
+use crate::room::make_room;
 use cm_binary_model::{Component, Section};
 use cm_validate_model::{ValidFault, ValidReason};
 use std::alloc::{AllocError, Global};
@@ -34,7 +35,7 @@ fn walk_item<'a>(
 }
 
 /// Adds the items of a section, up to the first fault: its number, and the least reason.
-fn walk_section<'a>(
+fn walk_items<'a>(
     alloc: Global,
     section: &'a Section,
     spaces: &mut IndexSpaces<'a>,
@@ -50,6 +51,21 @@ fn walk_section<'a>(
         }
     }
     None
+}
+
+/// Makes room for the items of a section, and adds them, up to the first fault.
+fn walk_section<'a>(
+    alloc: Global,
+    section: &'a Section,
+    spaces: &mut IndexSpaces<'a>,
+) -> Option<(usize, ValidReason)>
+    requires { Stands spaces.old }
+    ensures { Walks (items_of (section_tree section.now)) spaces.old result spaces.new }
+{
+    match make_room(spaces, section) {
+        Ok(()) => walk_items(alloc, section, spaces),
+        Err(AllocError) => Some((0, ValidReason::Memory)),
+    }
 }
 
 /// Adds the items of a component's sections, up to the first fault.

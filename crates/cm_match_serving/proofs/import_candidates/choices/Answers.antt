@@ -1,4 +1,4 @@
-use Rattle.std.proofs.Common.{◌≡◌, ◌∙◌, ◌++◌, ◌∷◌, [], Some, map, take, refl, sym, ap, subst, slice_get}
+use Rattle.std.proofs.Common.{◌≡◌, ◌∙◌, ◌++◌, ◌∷◌, [], Some, map, take, sym, ap, subst, slice_get}
 use Rattle.std.specs.Option.{option_map}
 use Rattle.cm_types.specs.Signatures.{NamedExtern}
 use Rattle.cm_match_model.specs.Fitting.{only}

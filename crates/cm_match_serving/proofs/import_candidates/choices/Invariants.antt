@@ -1,4 +1,4 @@
-use Rattle.std.proofs.Common.{◌≡◌, List, map, take}
+use Rattle.std.proofs.Common.{◌≡◌, map, take}
 use Rattle.cm_match_serving.specs.ExportTables.{HasExports}
 use Rattle.cm_match_model.specs.Imports.{exports_before}
 use Rattle.cm_match_serving.specs.Choices.{choices_in}

@@ -1,4 +1,4 @@
-use Rattle.std.proofs.Common.{◌≡◌, ◌∙◌, Some, sym, slice_get}
+use Rattle.std.proofs.Common.{Some, sym}
 use Rattle.cm_match_serving.specs.Linkings.{components_in}
 use Rattle.cm_match_serving.proofs.Found.{import_read}
 use Rattle.cm_match_serving.proofs.linking.Linking.import.Goals as goal

@@ -1,4 +1,4 @@
-use Rattle.std.proofs.Common.{◌≡◌, ◌∙◌, Some, None, List, ℕ, Option, ap, sym, slice_get}
+use Rattle.std.proofs.Common.{◌∙◌, Some, None, List, ℕ, Option, ap, sym, slice_get}
 use Rattle.std.specs.Option.{option_map}
 use Rattle.cm_validate_items.specs.Ranges.{resource_def}
 use Rattle.cm_validate_items.specs.declared.ranges.Resource.{Resource}

@@ -1,10 +1,9 @@
-use Rattle.std.proofs.Common.{◌≡◌, ◌∙◌, ◌++◌, ◌∷◌, [], ℕ, List, Some, set, false, is_some, refl, sym, ap, arith, slice_get}
+use Rattle.std.proofs.Common.{◌≡◌, ◌∙◌, ◌++◌, ◌∷◌, [], List, Some, set, false, is_some, refl, sym, ap, arith, slice_get}
 use Rattle.std.proofs.lemmas.Grind.{common_steps}
 use Rattle.std.proofs.lemmas.Option.{slice_get_within}
 use Rattle.std.proofs.lemmas.Result.{on_err_weaker, on_ok_weaker}
 use Rattle.std.specs.List.{list_any}
 use Rattle.std.specs.Str.{bytes_eq}
-use Rattle.std.specs.String.{string_bytes}
 use Rattle.cm_names.specs.TextTables.{texts_of}
 use Rattle.cm_match_model.specs.declared.candidates.Candidate.{Candidate}
 use Rattle.cm_match_model.specs.declared.candidates.Candidate.TheVariants as candidate
@@ -16,14 +15,14 @@ use Rattle.cm_match_serving.proofs.unversioned.NameTable.add.Goals as goal
 pub replace-requires : goal.replace-requires
 replace-requires c =
     let s = c.args.self.now in
-    omega (arith, slice_get_within (texts_of s.names) c.in-Some.number c.as_str.result.now c.in-Some.ensures.there, s.long)
+    omega (arith, slice_get_within (texts_of s.names) c.in-Some.number c.args.name.now c.in-Some.ensures.there, s.long)
 
 pub returns-in-Some-clause-ok : goal.returns-in-Some-clause-ok
 returns-in-Some-clause-ok c = λ es e read component number t.
     let s = c.args.self.now in
-    let m = string_bytes c.args.name in
+    let m = c.args.name.now in
     let n = c.in-Some.number in
-    let at : slice_get (texts_of s.names) n ≡ Some m = c.in-Some.ensures.there ∙ ap (λ (v : List ℕ). Some v) c.as_str.ensures.value in
+    let at : slice_get (texts_of s.names) n ≡ Some m = c.in-Some.ensures.there in
     let was : slice_get s.candidates.items n ≡ Some (only_named m es) = t.there m n at in
     let there : c.deref.result.now ≡ s.candidates.items = grind (arith, common_steps) in
     let held : c.candidate_at.result ≡ only_named m es = c.candidate_at.ensures (only_named m es) (ap (λ (cs : List Candidate). slice_get cs n) there ∙ was) in
@@ -35,13 +34,13 @@ returns-in-Some-clause-ok c = λ es e read component number t.
 
 pub put-requires : goal.put-requires
 put-requires c =
-    ap (λ t. list_any (bytes_eq t) (texts_of c.args.self.now.names)) (sym c.as_str.ensures.value) ∙ sym c.number.ensures.known ∙ ap is_some c.in-None.is
+    sym c.number.ensures.known ∙ ap is_some c.in-None.is
 
 pub returns-in-None-clause-ok : goal.returns-in-None-clause-ok
 returns-in-None-clause-ok c =
     let s = c.args.self.now in
-    let m = string_bytes c.args.name in
-    let fresh : list_any (bytes_eq m) (texts_of s.names) ≡ false = ap (λ t. list_any (bytes_eq t) (texts_of s.names)) (sym c.as_str.ensures.value) ∙ sym c.number.ensures.known ∙ ap is_some c.in-None.is in
+    let m = c.args.name.now in
+    let fresh : list_any (bytes_eq m) (texts_of s.names) ≡ false = sym c.number.ensures.known ∙ ap is_some c.in-None.is in
     on_ok_weaker c.put.result (λ p es e read component number t. put_more es e m read s _ p.names s.long
     (p.candidates ∙ ap (λ k. s.candidates.items ++ candidate.One k c.args.export ∷ []) (sym component) ∙ ap (λ k. s.candidates.items ++ candidate.One e.component k ∷ []) (sym number))
     fresh t) c.put.ensures.put

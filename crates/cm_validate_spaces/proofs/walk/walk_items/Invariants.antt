@@ -4,7 +4,7 @@ use Rattle.cm_validate_model.specs.Items.{items_of}
 use Rattle.cm_validate_model.specs.Spaces.{Spaces, after_items}
 use Rattle.cm_validate_spaces.specs.IndexSpaces.{IsAt}
 use Rattle.cm_validate_spaces.proofs.WalkLaws.{AreFine}
-use Rattle.cm_validate_spaces.proofs.walk.walk_section.Given as goal
+use Rattle.cm_validate_spaces.proofs.walk.walk_items.Given as goal
 
 -- the items so far break nothing, and the spaces are those after them
 abbrev pub invariant-loop-number : goal.invariant-loop-number

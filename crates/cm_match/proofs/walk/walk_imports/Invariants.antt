@@ -1,7 +1,7 @@
 use Rattle.cm_match_serving.specs.Linkings.{components_in, set_in}
 use Rattle.cm_match.specs.Pairs.{AreJudged}
 use Rattle.cm_match.specs.Walks.{HasServed}
-use Rattle.cm_match.proofs.walk.walk_component.Given as goal
+use Rattle.cm_match.proofs.walk.walk_imports.Given as goal
 
 -- the imports so far are served, and these are their lines
 abbrev pub invariant-loop-import : goal.invariant-loop-import
