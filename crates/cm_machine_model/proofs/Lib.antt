@@ -5,3 +5,5 @@ pub mod RunLaws
 pub mod StackLaws
 pub mod StateLaws
 pub mod ValidLaws
+mod CellsMemory
+mod Refilled

@@ -17,3 +17,4 @@ pub mod Owning
 pub mod Valid
 pub mod Work
 pub mod Lending
+pub mod Cells

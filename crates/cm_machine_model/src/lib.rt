@@ -7,6 +7,7 @@
 //! types, and a set keeps layouts, from which no type is read back.
 #![tactic(auto)]
 
+mod cells;
 mod event;
 mod flat;
 mod frame;

@@ -1,5 +1,6 @@
-use Rattle.std.proofs.Common.{◌≡◌, take}
+use Rattle.std.proofs.Common.{◌≡◌, length, take}
 use Rattle.cm_machine_model.proofs.flat.put_few.Given as goal
 
-abbrev pub invariant-loop-value : goal.invariant-loop-value
-invariant-loop-value l = l.values.items ≡ take l.value-index l.slice
+abbrev pub invariant-loop-place : goal.invariant-loop-place
+invariant-loop-place l = (take l.place l.values.xs ≡ take l.place l.slice)
+    × (length l.values.xs ≡ length l.initial.values.xs)
