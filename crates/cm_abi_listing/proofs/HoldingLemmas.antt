@@ -1,4 +1,5 @@
 -- Where what a type holds begins, and what its cases carry, one after another.
+use Rattle.std.proofs.Math.Nat.{add_assoc}
 use Rattle.std.proofs.Common.{◌≡◌, ℕ, zero, suc, ◌+◌, ◌<◌, ◌≤◌, List, [], ◌∷◌, ◌++◌, append_assoc, append-nil, drop, length, map, get_or, refl, sym, ap, ◌∙◌, rules, arith}
 use Rattle.std.specs.Prelude.{Bool, true, false, if◌then◌else◌, is_some, IfOk, MatchResult, Option, Some, None, Result, Ok, Err}
 use Rattle.std.specs.declared.alloc.Global.{Global}
@@ -13,6 +14,7 @@ use Rattle.cm_layout.specs.declared.layouts.Layout.{out-Layout}
 use Rattle.cm_layout.specs.declared.layouts.Part.{Part, out-Part}
 use Rattle.cm_layout.specs.declared.layouts.Payload.{Payload}
 use Rattle.cm_abi_listing.specs.Held.{items_at, items_of, part_offsets, slot_offsets, spread}
+use Rattle.cm_abi_listing.specs.Placed.{member_count, member_counts}
 use Rattle.cm_lemmas.proofs.Lists.{drop_past, next_element}
 
 -- ---- fields
@@ -50,6 +52,20 @@ slots_next ps i at next x front all lt is behind grown =
 
 pub slots_end : (ps : List Part) (i at : ℕ) (front : List ℕ) → length ps ≤ i → front ≡ front ++ slot_offsets (parts_from (map part_of (drop i ps))) at
 slots_end ps i at front past = sym (append-nil front) ∙ ap (λ qs. front ++ slot_offsets (parts_from (map part_of qs)) at) (sym (drop_past ps i past))
+
+-- ---- how many members lists make
+
+module _ {A : Type 0} where
+  pub members_next : (cs : List (Rc (Vec A Global) Global)) (i n m : ℕ) (c : Rc (Vec A Global) Global) → i < length cs → c ≡ get_or cs i c → m ≡ n + member_count (length c.value.items)
+      → m + member_counts (items_of (drop (i + 1) cs)) ≡ n + member_counts (items_of (drop i cs))
+  members_next cs i n m c lt is more =
+      let rest = member_counts (items_of (drop (i + 1) cs)) in
+      ap (λ k. k + rest) more ∙ (add_assoc n (member_count (length c.value.items)) rest ∙ ap (λ ls. n + member_counts ls) (sym (next_element (λ (l : Rc (Vec A Global) Global). l.value.items) cs i c lt is)))
+
+  pub members_end : (cs : List (Rc (Vec A Global) Global)) (i n : ℕ) → length cs ≤ i → n ≡ n + member_counts (items_of (drop i cs))
+  members_end cs i n past =
+      let none : member_counts (items_of (drop i cs)) ≡ 0 = ap (λ xs. member_counts (items_of xs)) (drop_past cs i past) in
+      omega (arith, none)
 
 -- ---- cases
 

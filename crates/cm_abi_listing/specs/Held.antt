@@ -1,5 +1,6 @@
 -- What a type holds, in order, and where it begins.
-use Rattle.std.specs.Prelude.{ℕ, ◌+◌, List, [], ◌∷◌, Option, Some, None, map, slice_index_or}
+use Rattle.std.specs.Prelude.{ℕ, ◌+◌, Bool, true, false, List, [], ◌∷◌, Option, Some, None, map}
+use Rattle.std.specs.Prelude.{slice_index_or}
 use Rattle.std.specs.declared.alloc.Global.{Global}
 use Rattle.std.specs.declared.rc.Rc.{Rc}
 use Rattle.std.specs.declared.vec.Vec.{Vec}
@@ -35,6 +36,11 @@ shapes_in (fixed_list_shape e x n) = x ∷ []
 shapes_in (fields_shape ps) = part_shapes ps
 shapes_in (cases_shape b d ps) = payload_shapes ps
 shapes_in (handle_shape h) = []
+
+-- what a value of this shape holds lies elsewhere, however the value is passed
+abbrev pub is_list : Shape → Bool
+is_list (list_shape e x) = true
+is_list _ = false
 
 -- the members of shared lists, and those of the list of a number
 abbrev pub items_of : {A : Type 0} → List (Rc (Vec A Global) Global) → List (List A)

@@ -1,6 +1,6 @@
 //! The checks of a type, listed from those of what it holds.
 
-ghost use Rattle.std.specs.Prelude.{◌≡◌, IfOk, OnOk, length, map};
+ghost use Rattle.std.specs.Prelude.{◌≡◌, IfOk, OnOk, false, length, map};
 ghost use Rattle.cm_layout.specs.Layouts.{layout_of};
 ghost use Rattle.cm_abi_programs.specs.Checks.{are_unchecked, both_checks, cases_checks};
 ghost use Rattle.cm_abi_programs.specs.Checks.{checks_of, flat_checks_of, is_unchecked};
@@ -8,10 +8,10 @@ ghost use Rattle.cm_abi_programs.specs.Checks.{leaf_checks, list_check, moved_ch
 ghost use Rattle.cm_abi_programs.specs.Checks.{placed_checks, row_checks};
 ghost use Rattle.cm_abi_programs.specs.Coded.{case_of, cases_from, check_lists, check_of};
 ghost use Rattle.cm_abi_programs.specs.Coded.{checks_in};
-ghost use Rattle.cm_abi_listing.specs.Held.{shapes_in};
+ghost use Rattle.cm_abi_listing.specs.Held.{is_list, shapes_in};
 ghost use Rattle.cm_abi_listing.specs.Placed.{checks_placed};
 
-use crate::holding::{byte_offsets, case_lists, only_list, slot_offsets};
+use crate::holding::{byte_offsets, case_lists, member_counts, only_list, slot_offsets};
 use cm_abi_programs::{CaseChecks, Check, FEW};
 use cm_layout::{Form, Head, Layout, Leaf};
 use std::alloc::{AllocError, Global};
@@ -56,7 +56,7 @@ fn placed_checks(
     ensures { IfOk result (λ cs.
         checks_in cs.items ≡ checks_placed offsets.now (check_lists lists.now)) }
 {
-    let mut all = Vec::new(alloc);
+    let mut all = Vec::with_capacity(alloc, member_counts(lists)?)?;
     for (index, offset) in offsets.iter().enumerate() {
         push_placed(&lists[index], *offset, &mut all)?;
     }
@@ -242,8 +242,8 @@ pub fn stored_checks(
 }
 
 /// What has to be looked at in a value that core values pass, by the layout of its type, from what
-/// has to be in the values that it holds, in order, in memory and in core values. It costs and
-/// fails as [`stored_checks`].
+/// has to be in the values that it holds, in order, in memory and in core values; of a list it does
+/// not matter what its elements would be as core values. It costs and fails as [`stored_checks`].
 pub fn flat_checks(
     alloc: Global,
     layout: &Layout,
@@ -252,8 +252,8 @@ pub fn flat_checks(
 ) -> Result<Vec<Check>, AllocError>
     requires stored { check_lists stored.now
         ≡ map checks_of (shapes_in (layout_of layout.now).shape) }
-    requires held { check_lists held.now
-        ≡ map flat_checks_of (shapes_in (layout_of layout.now).shape) }
+    requires held { is_list (layout_of layout.now).shape ≡ false
+        → check_lists held.now ≡ map flat_checks_of (shapes_in (layout_of layout.now).shape) }
     ensures { IfOk result (λ cs. checks_in cs.items ≡ flat_checks_of (layout_of layout.now).shape) }
 {
     match &layout.form {

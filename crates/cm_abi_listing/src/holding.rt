@@ -1,4 +1,4 @@
-//! Where what a type holds begins, and what its cases carry.
+//! Where what a type holds begins, how many members lists of it make, and what its cases carry.
 
 ghost use Rattle.std.specs.Prelude.{◌≡◌, ◌+◌, ◌^◌, ◌<◌, [], ◌∷◌, IfOk, if◌then◌else◌, is_some};
 ghost use Rattle.std.specs.Prelude.{length, map};
@@ -6,7 +6,9 @@ ghost use Rattle.cm_layout.specs.Layouts.{part_of, payload_of};
 ghost use Rattle.cm_layout.specs.Shapes.{parts_from};
 ghost use Rattle.cm_abi_listing.specs.Held.{items_at, items_of, part_offsets};
 ghost use Rattle.cm_abi_listing.specs.Held.{slot_offsets, spread};
+ghost use Rattle.cm_abi_listing.specs.Placed.{member_count, member_counts};
 
+use cm_abi_programs::FEW;
 use cm_abi_programs::places::place_behind;
 use cm_layout::{Part, Payload};
 use std::alloc::{AllocError, Global};
@@ -38,6 +40,28 @@ pub(crate) fn slot_offsets(alloc: Global, parts: &[Part]) -> Result<Vec<u32>, Al
     Ok(offsets)
 }
 
+/// How many members the list of a whole has of a list of so many of a field: one where that is
+/// shared, else its own.
+fn member_count(length: usize) -> usize
+    ensures { result ≡ member_count length }
+{
+    if length > FEW { 1 } else { length }
+}
+
+/// How many members the list of a whole has of those of its fields. `AllocError` comes where they
+/// are too many to be counted.
+pub(crate) fn member_counts<T: Drop>(lists: &[Rc<Vec<T>>]) -> Result<usize, AllocError>
+    ensures { IfOk result (λ n. n ≡ member_counts (items_of lists.now)) }
+{
+    let mut count: usize = 0;
+    for list in lists {
+        count = count
+            .checked_add(member_count(list.len()))
+            .ok_or(AllocError)?;
+    }
+    Ok(count)
+}
+
 /// The one list that is held, shared. `AllocError` comes where it is shared too often to be
 /// counted.
 pub(crate) fn only_list<T: Drop>(lists: &[Rc<Vec<T>>]) -> Result<Rc<Vec<T>>, AllocError>
@@ -54,19 +78,20 @@ fn is_carried(payload: &Payload) -> bool
     matches!(payload, Payload::Carried(_))
 }
 
-/// What a case has: the list of this number where it carries anything, else an empty one.
+/// What a case has, shared: the list of this number where it carries anything, else this empty one.
 fn case_list<T: Drop>(
-    alloc: Global,
     is_carried: bool,
     lists: &[Rc<Vec<T>>],
     number: usize,
+    nothing: &Rc<Vec<T>>,
 ) -> Result<Rc<Vec<T>>, AllocError>
+    requires { nothing.now.value.items ≡ [] }
     ensures { IfOk result (λ c. c.value.items
         ≡ (if is_carried then items_at (items_of lists.now) number else [])) }
 {
     match lists.get(number) {
         Some(list) if is_carried => list.clone(),
-        _ => Ok(Rc::new(alloc, Vec::new(alloc))?),
+        _ => nothing.clone(),
     }
 }
 
@@ -79,7 +104,7 @@ fn next_list(next: usize, is_carried: bool) -> usize
 }
 
 /// For each case the list of what it carries, the next one of these, and an empty one where it
-/// carries nothing. `AllocError` comes where there is no memory for them.
+/// carries nothing; all of these share one. `AllocError` comes where there is no memory for them.
 pub(crate) fn case_lists<T: Drop>(
     alloc: Global,
     payloads: &[Payload],
@@ -88,11 +113,12 @@ pub(crate) fn case_lists<T: Drop>(
     ensures { IfOk result (λ cs.
         items_of cs.items ≡ spread (map payload_of payloads.now) (items_of lists.now)) }
 {
+    let nothing = Rc::new(alloc, Vec::new(alloc))?;
     let mut all = Vec::with_capacity(alloc, payloads.len())?;
     let mut next = 0;
     for payload in payloads {
         let is_carried = is_carried(payload);
-        all.push(case_list(alloc, is_carried, lists, next)?)?;
+        all.push(case_list(is_carried, lists, next, &nothing)?)?;
         next = next_list(next, is_carried);
     }
     Ok(all)

@@ -12,7 +12,7 @@ ghost use Rattle.cm_abi_programs.specs.Puts.{puts_of, row_puts, with_moved, with
 ghost use Rattle.cm_abi_programs.specs.Puts.{with_put};
 ghost use Rattle.cm_abi_listing.specs.PutSteps.{IsJoined};
 
-use crate::holding::{byte_offsets, case_lists, only_list};
+use crate::holding::{byte_offsets, case_lists, member_counts, only_list};
 use cm_abi_programs::places::{place_behind, row_length};
 use cm_abi_programs::{CasePuts, FEW, Put};
 use cm_layout::{Form, Layout, Leaf};
@@ -101,10 +101,12 @@ fn placed_puts(
     ensures { IfOk result (λ cs.
         puts_in cs.items ≡ puts_placed offsets.now (put_lists lists.now) no_puts) }
 {
-    let mut all = Vec::new(alloc);
+    let mut all = Vec::with_capacity(alloc, member_counts(lists)?)?;
     for (index, offset) in offsets.iter().enumerate() {
         push_placed(&lists[index], *offset, &mut all)?;
     }
+    // Puts that became one with those before them took room, which goes back.
+    all.shrink_to_fit();
     Ok(all)
 }
 

@@ -1,18 +1,18 @@
 //! The puts of core values of a type, listed from those of what it holds.
 
-ghost use Rattle.std.specs.Prelude.{◌≡◌, IfOk, OnOk, length, map};
+ghost use Rattle.std.specs.Prelude.{◌≡◌, IfOk, OnOk, false, length, map};
 ghost use Rattle.cm_layout.specs.Layouts.{layout_of};
 ghost use Rattle.cm_abi_programs.specs.CodedPuts.{put_lists, puts_in};
 ghost use Rattle.cm_abi_programs.specs.CodedSlots.{case_of, case_slots_from, slot_lists};
 ghost use Rattle.cm_abi_programs.specs.CodedSlots.{slot_of, slots_in};
-ghost use Rattle.cm_abi_listing.specs.Held.{shapes_in};
+ghost use Rattle.cm_abi_listing.specs.Held.{is_list, shapes_in};
 ghost use Rattle.cm_abi_listing.specs.Placed.{slots_placed};
 ghost use Rattle.cm_abi_programs.specs.Puts.{puts_of};
 ghost use Rattle.cm_abi_programs.specs.SlotPuts.{are_unput, both_slots, cases_slots, each_slot};
 ghost use Rattle.cm_abi_programs.specs.SlotPuts.{flat_puts_of, is_unput, leaf_slot, list_slot};
 ghost use Rattle.cm_abi_programs.specs.SlotPuts.{moved_slots, one_slot, placed_slots};
 
-use crate::holding::{case_lists, only_list, slot_offsets};
+use crate::holding::{case_lists, member_counts, only_list, slot_offsets};
 use cm_abi_programs::{CaseSlotPuts, FEW, Put, SlotPut};
 use cm_layout::{Form, Layout, Leaf};
 use std::alloc::{AllocError, Global};
@@ -57,7 +57,7 @@ fn placed_slots(
     ensures { IfOk result (λ cs.
         slots_in cs.items ≡ slots_placed offsets.now (slot_lists lists.now)) }
 {
-    let mut all = Vec::new(alloc);
+    let mut all = Vec::with_capacity(alloc, member_counts(lists)?)?;
     for (index, offset) in offsets.iter().enumerate() {
         push_placed(&lists[index], *offset, &mut all)?;
     }
@@ -153,9 +153,10 @@ fn cases_slots(alloc: Global, cases: Vec<Rc<Vec<SlotPut>>>) -> Result<Vec<SlotPu
 }
 
 /// What has to be put into core values for a value, by the layout of its type, from what has to be
-/// for the values that it holds, in order: written to memory, and put into core values. Each list
-/// is shared, and nothing below is walked. `AllocError` comes where there is no memory for it, or
-/// where a place in a value would take more than 32 bits, which none of a layout does.
+/// for the values that it holds, in order: written to memory, and put into core values; of a list
+/// it does not matter what its elements would be as core values. Each list is shared, and nothing
+/// below is walked. `AllocError` comes where there is no memory for it, or where a place in a value
+/// would take more than 32 bits, which none of a layout does.
 pub fn flat_puts(
     alloc: Global,
     layout: &Layout,
@@ -164,8 +165,8 @@ pub fn flat_puts(
 ) -> Result<Vec<SlotPut>, AllocError>
     requires stored { put_lists stored.now
         ≡ map puts_of (shapes_in (layout_of layout.now).shape) }
-    requires held { slot_lists held.now
-        ≡ map flat_puts_of (shapes_in (layout_of layout.now).shape) }
+    requires held { is_list (layout_of layout.now).shape ≡ false
+        → slot_lists held.now ≡ map flat_puts_of (shapes_in (layout_of layout.now).shape) }
     ensures { IfOk result (λ cs. slots_in cs.items ≡ flat_puts_of (layout_of layout.now).shape) }
 {
     match &layout.form {

@@ -1,6 +1,7 @@
 //! What has to be looked at in the values of an arena's types.
 
-ghost use Rattle.std.specs.Prelude.{[], ◌≡◌, ◌+◌, ◌<◌, ℕ, IfOk, List, OnOk, length, map, take};
+ghost use Rattle.std.specs.Prelude.{[], ◌≡◌, ◌+◌, ◌<◌, ◌≤◌, ℕ, IfOk, List, OnOk, length, map, take};
+ghost use Rattle.std.specs.Prelude.{if◌then◌else◌, true};
 ghost use Rattle.std.specs.List.{AllByRecursion};
 ghost use Rattle.cm_types.specs.Types.{Fields, Ty};
 ghost use Rattle.cm_layout.specs.Layouts.{layout_of};
@@ -10,16 +11,20 @@ ghost use Rattle.cm_types_arena.specs.Places.{types_of};
 ghost use Rattle.cm_types_arena.specs.Replaced.{Standing};
 ghost use Rattle.cm_types_arena.specs.TypeDefs.{type_at};
 ghost use Rattle.cm_layout_placed.specs.Placed.{layouts_in, types_by};
+ghost use Rattle.cm_abi_programs.specs.Checks.{checks_of, flat_checks_of, no_checks};
 ghost use Rattle.cm_abi_programs.specs.Checks.{passed_checks_of};
-ghost use Rattle.cm_abi_programs.specs.Coded.{checks_in};
-ghost use Rattle.cm_abi_placed.specs.Placed.{AreChecksOf};
+ghost use Rattle.cm_abi_programs.specs.Coded.{check_lists, checks_in};
+ghost use Rattle.cm_abi_listing.specs.Held.{shapes_in};
+ghost use Rattle.cm_abi_placed.specs.Placed.{AreChecksOf, has_elements, is_wide};
 
 use crate::gathering::gather;
+use crate::widths::is_wide;
 use cm_abi_listing::{flat_checks, stored_checks};
 use cm_abi_programs::Check;
 use cm_layout::Layout;
 use cm_layout_placed::Layouts;
 use cm_types_arena::Types;
+use cm_types_arena::type_laws::types_are_lawful;
 use std::alloc::{AllocError, Global};
 use std::rc::Rc;
 
@@ -32,14 +37,13 @@ pub(crate) struct PlacedChecks {
 }
 
 impl PlacedChecks {
-    /// Nothing of no types.
-    fn new(alloc: Global) -> PlacedChecks
-        ensures { AreChecksOf [] result }
+    /// Nothing of no types, with room for that of so many.
+    fn new(alloc: Global, count: usize) -> Result<PlacedChecks, AllocError>
+        ensures { IfOk result (AreChecksOf []) }
     {
-        PlacedChecks {
-            stored: Vec::new(alloc),
-            flat: Vec::new(alloc),
-        }
+        let stored = Vec::with_capacity(alloc, count)?;
+        let flat = Vec::with_capacity(alloc, count)?;
+        Ok(PlacedChecks { stored, flat })
     }
 
     /// That of the types of an arena, which have these layouts by place. Each costs what its
@@ -56,8 +60,9 @@ impl PlacedChecks {
             → layouts_in layouts.now ≡ map layout_at (types_by s (types_of types.now))
             → AreChecksOf (types_by s (types_of types.now)) checks) }
     {
-        let mut checks = PlacedChecks::new(alloc);
+        let mut checks = PlacedChecks::new(alloc, types.len())?;
         for place in 0..types.len() {
+            types_are_lawful(types, place);
             checks.add(alloc, layouts.get(place), types.parts(place))?;
         }
         Ok(checks)
@@ -68,25 +73,53 @@ impl PlacedChecks {
         requires next { (ts : List Ty) × (n : ℕ) × AreChecksOf (take n ts) self.old
             × (n < length ts) × AllByRecursion (λ p. p < n) places.now
             × (parts_in (type_at ts n) ≡ map (type_at ts) places.now)
-            × (layout_of layout.now ≡ layout_at (type_at ts n)) }
+            × (layout_of layout.now ≡ layout_at (type_at ts n))
+            × (has_elements (type_at ts n) ≡ true) }
         ensures { OnOk result ((ts : List Ty) (n : ℕ) → AreChecksOf (take n ts) self.old
             → n < length ts → AllByRecursion (λ p. p < n) places.now
             → parts_in (type_at ts n) ≡ map (type_at ts) places.now
             → layout_of layout.now ≡ layout_at (type_at ts n)
+            → has_elements (type_at ts n) ≡ true
             → AreChecksOf (take (n + 1) ts) self.new) }
     {
         let stored = gather(alloc, &self.stored, places)?;
-        let flat = gather(alloc, &self.flat, places)?;
         let checks = stored_checks(alloc, layout, &stored)?;
-        let passed = flat_checks(alloc, layout, &stored, &flat)?;
+        let passed = self.flat(alloc, layout, &stored, places)?;
         self.stored.push(Rc::new(alloc, checks)?)?;
         self.flat.push(Rc::new(alloc, passed)?)?;
         Ok(())
     }
 
+    /// What has to be looked at of a type of this layout where core values pass it, from what has
+    /// to be of its parts in memory, which stand at these places; nothing where it is wide.
+    fn flat(
+        &self,
+        alloc: Global,
+        layout: &Layout,
+        stored: &[Rc<Vec<Check>>],
+        places: &[usize],
+    ) -> Result<Vec<Check>, AllocError>
+        requires stored { check_lists stored.now
+            ≡ map checks_of (shapes_in (layout_of layout.now).shape) }
+        requires parts { (ts : List Ty) × (n : ℕ) × (t : Ty) × AreChecksOf (take n ts) self.now
+            × (n ≤ length ts) × AllByRecursion (λ p. p < n) places.now
+            × (parts_in t ≡ map (type_at ts) places.now) × (layout_of layout.now ≡ layout_at t)
+            × (has_elements t ≡ true) }
+        ensures { IfOk result (λ cs. checks_in cs.items
+            ≡ (if is_wide (layout_of layout.now).head then no_checks
+            else flat_checks_of (layout_of layout.now).shape)) }
+    {
+        if is_wide(layout) {
+            return Ok(Vec::new(alloc));
+        }
+        let flat = gather(alloc, &self.flat, places)?;
+        flat_checks(alloc, layout, stored, &flat)
+    }
+
     /// That of the tuple of types at these places, which has this layout, where so many core values
     /// at most pass it: in core values, or in memory where these would be too many. `AllocError`
-    /// comes where there is no memory for it.
+    /// comes where there is no memory for it, or where it is wide and the limit, which is then that
+    /// of no call, would have core values pass it.
     pub(crate) fn passed(
         &self,
         alloc: Global,
@@ -105,7 +138,9 @@ impl PlacedChecks {
         if layout.head.width as usize > limit {
             return stored_checks(alloc, layout, &stored);
         }
-        let flat = gather(alloc, &self.flat, places)?;
-        flat_checks(alloc, layout, &stored, &flat)
+        if is_wide(layout) {
+            return Err(AllocError);
+        }
+        self.flat(alloc, layout, &stored, places)
     }
 }

@@ -59,7 +59,8 @@ impl PlacedPrograms {
 
     /// The program of the tuple of types at these places, which has this layout, where so many core
     /// values at most pass it: in core values, or in memory where these would be too many.
-    /// `AllocError` comes where there is no memory for it.
+    /// `AllocError` comes where there is no memory for it, or where more than `MAX_FLAT_PARAMS`,
+    /// but no more than the limit, would pass it: no call has such a limit.
     pub fn passed(
         &self,
         alloc: Global,
@@ -83,7 +84,7 @@ impl PlacedPrograms {
 
     /// The program of the parameters of a function, as the tuple of them, which has this layout,
     /// where so many core values at most pass them; `func` is the function's place among those of
-    /// the arena. `AllocError` comes where there is no memory for it.
+    /// the arena. It fails as [`PlacedPrograms::passed`].
     pub fn params(
         &self,
         alloc: Global,
@@ -106,7 +107,7 @@ impl PlacedPrograms {
 
     /// The program of the result of a function, as the tuple of it, of one field or of none, which
     /// has this layout, where so many core values at most pass it; `func` is the function's place
-    /// among those of the arena. `AllocError` comes where there is no memory for it.
+    /// among those of the arena. It fails as [`PlacedPrograms::passed`].
     pub fn result(
         &self,
         alloc: Global,

@@ -1,6 +1,7 @@
 //! What has to be written of the values of an arena's types.
 
-ghost use Rattle.std.specs.Prelude.{[], ◌≡◌, ◌+◌, ◌<◌, ℕ, IfOk, List, OnOk, length, map, take};
+ghost use Rattle.std.specs.Prelude.{[], ◌≡◌, ◌+◌, ◌<◌, ◌≤◌, ℕ, IfOk, List, OnOk, length, map, take};
+ghost use Rattle.std.specs.Prelude.{if◌then◌else◌, true};
 ghost use Rattle.std.specs.List.{AllByRecursion};
 ghost use Rattle.cm_types.specs.Types.{Fields, Ty};
 ghost use Rattle.cm_layout.specs.Layouts.{layout_of};
@@ -11,14 +12,21 @@ ghost use Rattle.cm_types_arena.specs.Replaced.{Standing};
 ghost use Rattle.cm_types_arena.specs.TypeDefs.{type_at};
 ghost use Rattle.cm_layout_placed.specs.Placed.{layouts_in, types_by};
 ghost use Rattle.cm_abi_programs.specs.CallPuts.{call_puts_in, call_puts_of};
-ghost use Rattle.cm_abi_placed.specs.Placed.{ArePutsOf};
+ghost use Rattle.cm_abi_programs.specs.CodedPuts.{put_lists};
+ghost use Rattle.cm_abi_programs.specs.CodedSlots.{slots_in};
+ghost use Rattle.cm_abi_programs.specs.Puts.{puts_of};
+ghost use Rattle.cm_abi_programs.specs.SlotPuts.{flat_puts_of, no_slots};
+ghost use Rattle.cm_abi_listing.specs.Held.{shapes_in};
+ghost use Rattle.cm_abi_placed.specs.Placed.{ArePutsOf, has_elements, is_wide};
 
 use crate::gathering::gather;
+use crate::widths::is_wide;
 use cm_abi_listing::{flat_puts, stored_puts};
 use cm_abi_programs::{CallPuts, Put, SlotPut};
 use cm_layout::Layout;
 use cm_layout_placed::Layouts;
 use cm_types_arena::Types;
+use cm_types_arena::type_laws::types_are_lawful;
 use std::alloc::{AllocError, Global};
 use std::rc::Rc;
 
@@ -31,14 +39,13 @@ pub(crate) struct PlacedPuts {
 }
 
 impl PlacedPuts {
-    /// Nothing of no types.
-    fn new(alloc: Global) -> PlacedPuts
-        ensures { ArePutsOf [] result }
+    /// Nothing of no types, with room for that of so many.
+    fn new(alloc: Global, count: usize) -> Result<PlacedPuts, AllocError>
+        ensures { IfOk result (ArePutsOf []) }
     {
-        PlacedPuts {
-            stored: Vec::new(alloc),
-            flat: Vec::new(alloc),
-        }
+        let stored = Vec::with_capacity(alloc, count)?;
+        let flat = Vec::with_capacity(alloc, count)?;
+        Ok(PlacedPuts { stored, flat })
     }
 
     /// That of the types of an arena, which have these layouts by place. Each costs what its
@@ -55,8 +62,9 @@ impl PlacedPuts {
             → layouts_in layouts.now ≡ map layout_at (types_by s (types_of types.now))
             → ArePutsOf (types_by s (types_of types.now)) puts) }
     {
-        let mut puts = PlacedPuts::new(alloc);
+        let mut puts = PlacedPuts::new(alloc, types.len())?;
         for place in 0..types.len() {
+            types_are_lawful(types, place);
             puts.add(alloc, layouts.get(place), types.parts(place))?;
         }
         Ok(puts)
@@ -67,25 +75,53 @@ impl PlacedPuts {
         requires next { (ts : List Ty) × (n : ℕ) × ArePutsOf (take n ts) self.old
             × (n < length ts) × AllByRecursion (λ p. p < n) places.now
             × (parts_in (type_at ts n) ≡ map (type_at ts) places.now)
-            × (layout_of layout.now ≡ layout_at (type_at ts n)) }
+            × (layout_of layout.now ≡ layout_at (type_at ts n))
+            × (has_elements (type_at ts n) ≡ true) }
         ensures { OnOk result ((ts : List Ty) (n : ℕ) → ArePutsOf (take n ts) self.old
             → n < length ts → AllByRecursion (λ p. p < n) places.now
             → parts_in (type_at ts n) ≡ map (type_at ts) places.now
             → layout_of layout.now ≡ layout_at (type_at ts n)
+            → has_elements (type_at ts n) ≡ true
             → ArePutsOf (take (n + 1) ts) self.new) }
     {
         let stored = gather(alloc, &self.stored, places)?;
-        let flat = gather(alloc, &self.flat, places)?;
         let puts = stored_puts(alloc, layout, &stored)?;
-        let passed = flat_puts(alloc, layout, &stored, &flat)?;
+        let passed = self.flat(alloc, layout, &stored, places)?;
         self.stored.push(Rc::new(alloc, puts)?)?;
         self.flat.push(Rc::new(alloc, passed)?)?;
         Ok(())
     }
 
+    /// What has to be put into core values for a type of this layout, from what has to be written
+    /// of its parts in memory, which stand at these places; nothing where it is wide.
+    fn flat(
+        &self,
+        alloc: Global,
+        layout: &Layout,
+        stored: &[Rc<Vec<Put>>],
+        places: &[usize],
+    ) -> Result<Vec<SlotPut>, AllocError>
+        requires stored { put_lists stored.now
+            ≡ map puts_of (shapes_in (layout_of layout.now).shape) }
+        requires parts { (ts : List Ty) × (n : ℕ) × (t : Ty) × ArePutsOf (take n ts) self.now
+            × (n ≤ length ts) × AllByRecursion (λ p. p < n) places.now
+            × (parts_in t ≡ map (type_at ts) places.now) × (layout_of layout.now ≡ layout_at t)
+            × (has_elements t ≡ true) }
+        ensures { IfOk result (λ cs. slots_in cs.items
+            ≡ (if is_wide (layout_of layout.now).head then no_slots
+            else flat_puts_of (layout_of layout.now).shape)) }
+    {
+        if is_wide(layout) {
+            return Ok(Vec::new(alloc));
+        }
+        let flat = gather(alloc, &self.flat, places)?;
+        flat_puts(alloc, layout, stored, &flat)
+    }
+
     /// That of the tuple of types at these places, which has this layout, where so many core values
     /// at most pass it: into core values, or into memory where these would be too many.
-    /// `AllocError` comes where there is no memory for it.
+    /// `AllocError` comes where there is no memory for it, or where it is wide and the limit, which
+    /// is then that of no call, would have core values pass it.
     pub(crate) fn passed(
         &self,
         alloc: Global,
@@ -105,8 +141,10 @@ impl PlacedPuts {
             let puts = stored_puts(alloc, layout, &stored)?;
             return Ok(CallPuts::Stored(puts));
         }
-        let flat = gather(alloc, &self.flat, places)?;
-        let puts = flat_puts(alloc, layout, &stored, &flat)?;
+        if is_wide(layout) {
+            return Err(AllocError);
+        }
+        let puts = self.flat(alloc, layout, &stored, places)?;
         Ok(CallPuts::Flat(puts))
     }
 }

@@ -2,9 +2,9 @@ use Rattle.std.proofs.Common.{◌≡◌, ◌∙◌, ap, sym, refl}
 use Rattle.cm_abi_programs.specs.Checks.{cases_checks, checks_of, flat_checks_of, list_check, one_check, row_checks}
 use Rattle.cm_abi_programs.specs.Coded.{cases_from, checks_in}
 use Rattle.cm_abi_programs.proofs.CheckForms.{seen_Below, seen_Handle, seen_Text}
-use Rattle.cm_abi_listing.specs.Held.{slot_offsets}
+use Rattle.cm_abi_listing.specs.Held.{is_list, slot_offsets}
 use Rattle.cm_abi_listing.specs.Placed.{checks_placed}
-use Rattle.cm_abi_listing.proofs.FormLemmas.{enum_is, handle_is, leaf_is, string_is}
+use Rattle.cm_abi_listing.proofs.FormLemmas.{cases_is, enum_is, fields_is, fixed_list_is, handle_is, leaf_is, string_is}
 use Rattle.cm_abi_listing.proofs.MakingLemmas.{flat_cases_carried, flat_enum_checks, flat_fields_placed}
 use Rattle.cm_abi_listing.proofs.ShapeLemmas.{as_many_slots, cases_made, fields_many, fields_made, fixed_one, list_made, list_one, row_made, becomes}
 use Rattle.cm_abi_listing.proofs.checks.flat_checks.Goals as goal
@@ -13,12 +13,12 @@ pub only_list-requires : goal.only_list-requires
 only_list-requires c = list_one checks_in checks_of c.args.layout.now c.args.stored.now c.requires.stored c.in-List.element c.in-List.is
 
 pub only_list-requires-in-FixedList : goal.only_list-requires-in-FixedList
-only_list-requires-in-FixedList c = fixed_one checks_in flat_checks_of c.args.layout.now c.args.held.now c.requires.held c.in-FixedList.element c.in-FixedList.length c.in-FixedList.is
+only_list-requires-in-FixedList c = fixed_one checks_in flat_checks_of c.args.layout.now c.args.held.now (c.requires.held (ap is_list (fixed_list_is c.args.layout.now c.in-FixedList.element c.in-FixedList.length c.in-FixedList.is))) c.in-FixedList.element c.in-FixedList.length c.in-FixedList.is
 
 pub placed_checks-requires : goal.placed_checks-requires
 placed_checks-requires c =
     let parts_are : c.deref-in-Fields-2.result.now ≡ c.in-Fields.parts.value.items = c.deref-in-Fields-2.ensures.value ∙ ap (λ v. v.items) c.deref-in-Fields.ensures in
-    fields_many checks_in flat_checks_of c.args.layout.now c.args.held.now c.requires.held (λ qs. slot_offsets qs 0) (as_many_slots 0) c.in-Fields.parts c.deref-in-Fields-2.result.now c.deref-in-Fields-3.result.now c.in-Fields.is parts_are (c.deref-in-Fields-3.ensures.value ∙ c.in_ok-slot_offsets-in-Fields.ensures)
+    fields_many checks_in flat_checks_of c.args.layout.now c.args.held.now (c.requires.held (ap is_list (fields_is c.args.layout.now c.in-Fields.parts c.in-Fields.is))) (λ qs. slot_offsets qs 0) (as_many_slots 0) c.in-Fields.parts c.deref-in-Fields-2.result.now c.deref-in-Fields-3.result.now c.in-Fields.is parts_are (c.deref-in-Fields-3.ensures.value ∙ c.in_ok-slot_offsets-in-Fields.ensures)
 
 pub returns-in-Leaf : goal.returns-in-Leaf
 returns-in-Leaf c = becomes checks_in c.leaf_checks.result _ _ (ap flat_checks_of (sym (leaf_is c.args.layout.now c.in-Leaf.leaf c.in-Leaf.is))) c.leaf_checks.ensures
@@ -34,19 +34,19 @@ returns-in_ok-only_list-in-List c =
 pub returns-in_ok-only_list-in-FixedList : goal.returns-in_ok-only_list-in-FixedList
 returns-in_ok-only_list-in-FixedList c =
     becomes checks_in c.row_checks.result _ _
-    (row_made checks_in flat_checks_of c.args.layout.now c.args.held.now c.requires.held flat_checks_of (λ h n x. row_checks h.width n x) (λ h n x. refl) c.in-FixedList.element c.in-FixedList.length c.deref-in-FixedList.result.now c.in_ok-only_list-in-FixedList.field-0 c.in-FixedList.is c.deref-in-FixedList.ensures c.in_ok-only_list-in-FixedList.ensures) c.row_checks.ensures
+    (row_made checks_in flat_checks_of c.args.layout.now c.args.held.now (c.requires.held (ap is_list (fixed_list_is c.args.layout.now c.in-FixedList.element c.in-FixedList.length c.in-FixedList.is))) flat_checks_of (λ h n x. row_checks h.width n x) (λ h n x. refl) c.in-FixedList.element c.in-FixedList.length c.deref-in-FixedList.result.now c.in_ok-only_list-in-FixedList.field-0 c.in-FixedList.is c.deref-in-FixedList.ensures c.in_ok-only_list-in-FixedList.ensures) c.row_checks.ensures
 
 pub returns-in_ok-slot_offsets-in-Fields : goal.returns-in_ok-slot_offsets-in-Fields
 returns-in_ok-slot_offsets-in-Fields c =
     let parts_are : c.deref-in-Fields-2.result.now ≡ c.in-Fields.parts.value.items = c.deref-in-Fields-2.ensures.value ∙ ap (λ v. v.items) c.deref-in-Fields.ensures in
     becomes checks_in c.placed_checks.result _ _
-    (fields_made checks_in flat_checks_of c.args.layout.now c.args.held.now c.requires.held flat_checks_of checks_placed (λ qs. slot_offsets qs 0) (λ qs. flat_fields_placed qs 0) c.in-Fields.parts c.deref-in-Fields-2.result.now c.deref-in-Fields-3.result.now c.in-Fields.is parts_are (c.deref-in-Fields-3.ensures.value ∙ c.in_ok-slot_offsets-in-Fields.ensures)) c.placed_checks.ensures
+    (fields_made checks_in flat_checks_of c.args.layout.now c.args.held.now (c.requires.held (ap is_list (fields_is c.args.layout.now c.in-Fields.parts c.in-Fields.is))) flat_checks_of checks_placed (λ qs. slot_offsets qs 0) (λ qs. flat_fields_placed qs 0) c.in-Fields.parts c.deref-in-Fields-2.result.now c.deref-in-Fields-3.result.now c.in-Fields.is parts_are (c.deref-in-Fields-3.ensures.value ∙ c.in_ok-slot_offsets-in-Fields.ensures)) c.placed_checks.ensures
 
 pub returns-in_ok-cases-in-Cases : goal.returns-in_ok-cases-in-Cases
 returns-in_ok-cases-in-Cases c =
     let payloads_are : c.deref-in-Cases-2.result.now ≡ c.in-Cases.payloads.value.items = c.deref-in-Cases-2.ensures.value ∙ ap (λ v. v.items) c.deref-in-Cases.ensures in
     becomes checks_in c.cases_checks.result _ _
-    (cases_made checks_in flat_checks_of c.args.layout.now c.args.held.now c.requires.held flat_checks_of (λ b d xs. cases_checks 4 1 (cases_from xs)) (λ b d qs. ap (λ cs. cases_checks 4 1 cs) (flat_cases_carried qs)) _ _ c.in-Cases.payloads c.deref-in-Cases-2.result.now c.in_ok-cases-in-Cases.cases.items c.in-Cases.is payloads_are c.in_ok-cases-in-Cases.ensures) c.cases_checks.ensures
+    (cases_made checks_in flat_checks_of c.args.layout.now c.args.held.now (c.requires.held (ap is_list (cases_is c.args.layout.now _ _ c.in-Cases.payloads c.in-Cases.is))) flat_checks_of (λ b d xs. cases_checks 4 1 (cases_from xs)) (λ b d qs. ap (λ cs. cases_checks 4 1 cs) (flat_cases_carried qs)) _ _ c.in-Cases.payloads c.deref-in-Cases-2.result.now c.in_ok-cases-in-Cases.cases.items c.in-Cases.is payloads_are c.in_ok-cases-in-Cases.ensures) c.cases_checks.ensures
 
 pub returns-in-Enum : goal.returns-in-Enum
 returns-in-Enum c =

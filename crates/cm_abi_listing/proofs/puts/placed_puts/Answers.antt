@@ -1,4 +1,4 @@
-use Rattle.std.proofs.Common.{refl, ◌∙◌, arith}
+use Rattle.std.proofs.Common.{refl, ap, ◌∙◌, arith}
 use Rattle.cm_abi_programs.specs.CodedPuts.{put_lists, puts_in}
 use Rattle.cm_abi_listing.proofs.PutMakingLemmas.{placed_end, placed_next}
 use Rattle.cm_abi_listing.proofs.puts.placed_puts.Goals as goal
@@ -9,4 +9,6 @@ loop-index-preserved c =
     ∙ c.loop-index.invariant
 
 pub returns : goal.returns
-returns c = placed_end c.args.offsets.now (put_lists _) c.loop-index.index (puts_in c.loop-index.all.items) c.loop-index-test.false ∙ c.loop-index.invariant
+returns c =
+    ap puts_in c.shrink_to_fit.ensures.items
+    ∙ (placed_end c.args.offsets.now (put_lists _) c.loop-index.index (puts_in c.loop-index.all.items) c.loop-index-test.false ∙ c.loop-index.invariant)

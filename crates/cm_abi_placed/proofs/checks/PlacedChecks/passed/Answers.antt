@@ -1,37 +1,38 @@
-use Rattle.std.proofs.Common.{◌≡◌, ◌∙◌, ◌<◌, ◌≤◌, ap, arith, length, map, refl, subst, sym}
+use Rattle.std.proofs.Common.{◌≡◌, ◌∙◌, ◌<◌, ◌≤◌, ap, arith, false, length, map, refl, subst, sym, take}
 use Rattle.std.proofs.lemmas.Bool.{le-ltb, lt-ltb}
 use Rattle.std.proofs.lemmas.Result.{IfOk-weaker}
 use Rattle.std.specs.List.{AllByRecursion}
+use Rattle.cm_types.specs.Types.{fields, tuple_type}
 use Rattle.cm_layout.specs.Layouts.{layout_of}
 use Rattle.cm_layout.specs.declared.heads.Head.{Head}
 use Rattle.cm_layout.specs.declared.layouts.Layout.{out-Layout}
 use Rattle.cm_layout.proofs.LayoutLemmas.{seen_head}
-use Rattle.cm_abi_programs.specs.Checks.{checks_of, flat_checks_of, passed_checks_of}
+use Rattle.cm_abi_programs.specs.Checks.{checks_of, flat_checks_of, no_checks, passed_checks_of}
 use Rattle.cm_abi_programs.specs.Coded.{check_lists, checks_in}
 use Rattle.cm_abi_listing.specs.Held.{items_at, items_of, shapes_in}
-use Rattle.cm_abi_placed.proofs.HeldLaws.{tuple_held, whole_many}
+use Rattle.cm_abi_placed.specs.Placed.{AreChecksOf, is_wide, stored_of}
+use Rattle.cm_abi_placed.proofs.HeldLaws.{all_types, narrow_some, tuple_held, whole_many}
 use Rattle.cm_abi_placed.proofs.checks.PlacedChecks.passed.Goals as goal
 
 pub gather-requires : goal.gather-requires
-gather-requires c = subst (λ m. AllByRecursion (λ p. p < m) c.args.places.now) (sym (ap length c.deref.ensures.value ∙ whole_many checks_in checks_of c.args.self.now.stored.items c.requires.tuple.0 c.requires.tuple.2.stored_are)) c.requires.tuple.3
-
-pub gather-requires-2 : goal.gather-requires-2
-gather-requires-2 c = subst (λ m. AllByRecursion (λ p. p < m) c.args.places.now) (sym (ap length c.deref-2.ensures.value ∙ whole_many checks_in flat_checks_of c.args.self.now.flat.items c.requires.tuple.0 c.requires.tuple.2.passed_are)) c.requires.tuple.3
+gather-requires c = subst (λ m. AllByRecursion (λ p. p < m) c.args.places.now) (sym (ap length c.deref.ensures.value ∙ whole_many checks_in stored_of c.args.self.now.stored.items c.requires.tuple.0 c.requires.tuple.2.stored_are)) c.requires.tuple.3
 
 pub stored_checks-requires : goal.stored_checks-requires
 stored_checks-requires c =
     ap check_lists c.deref-then-layout-limit.ensures.value
     ∙ tuple_held checks_in checks_of c.args.self.now.stored.items c.requires.tuple.0 c.requires.tuple.2.stored_are c.in_ok-stored.stored.items c.args.places.now c.requires.tuple.1 (layout_of c.args.layout.now) c.requires.tuple.3 (c.in_ok-stored.ensures ∙ ap (λ xs. map (items_at (items_of xs)) c.args.places.now) c.deref.ensures.value) c.requires.tuple.4 c.requires.tuple.5
 
-pub flat_checks-requires : goal.flat_checks-requires
-flat_checks-requires c =
-    let stored : check_lists c.deref-3.result.now ≡ map checks_of (shapes_in (layout_of c.args.layout.now).shape) =
-    ap check_lists c.deref-3.ensures.value
+pub flat-requires : goal.flat-requires
+flat-requires c =
+    let ts = c.requires.tuple.0 in
+    let stored : check_lists c.deref-2.result.now ≡ map checks_of (shapes_in (layout_of c.args.layout.now).shape) =
+    ap check_lists c.deref-2.ensures.value
     ∙ tuple_held checks_in checks_of c.args.self.now.stored.items c.requires.tuple.0 c.requires.tuple.2.stored_are c.in_ok-stored.stored.items c.args.places.now c.requires.tuple.1 (layout_of c.args.layout.now) c.requires.tuple.3 (c.in_ok-stored.ensures ∙ ap (λ xs. map (items_at (items_of xs)) c.args.places.now) c.deref.ensures.value) c.requires.tuple.4 c.requires.tuple.5 in
-    let flat : check_lists c.deref-4.result.now ≡ map flat_checks_of (shapes_in (layout_of c.args.layout.now).shape) =
-    ap check_lists c.deref-4.ensures.value
-    ∙ tuple_held checks_in flat_checks_of c.args.self.now.flat.items c.requires.tuple.0 c.requires.tuple.2.passed_are c.in_ok-flat.flat.items c.args.places.now c.requires.tuple.1 (layout_of c.args.layout.now) c.requires.tuple.3 (c.in_ok-flat.ensures ∙ ap (λ xs. map (items_at (items_of xs)) c.args.places.now) c.deref-2.ensures.value) c.requires.tuple.4 c.requires.tuple.5 in
-    record { stored = stored; held = flat }
+    let all : AreChecksOf (take (length ts) ts) c.args.self.now = subst (λ xs. AreChecksOf xs c.args.self.now) (sym (all_types ts (length ts) (omega arith))) c.requires.tuple.2 in
+    record {
+      stored = stored;
+      parts = (ts, length ts, fields tuple_type c.requires.tuple.1, all, omega arith, c.requires.tuple.3, c.requires.tuple.4, c.requires.tuple.5, refl);
+    }
 
 pub returns-then-layout-limit : goal.returns-then-layout-limit
 returns-then-layout-limit c =
@@ -45,4 +46,6 @@ returns c =
     let width_is : (layout_of c.args.layout.now).head.width ≡ (out-Layout c.args.layout.now).head.width = ap (λ (h : Head). h.width) (seen_head c.args.layout.now) in
     let narrow : (layout_of c.args.layout.now).head.width ≤ c.args.limit = omega (arith, c.if-layout-limit.false, width_is) in
     let is : passed_checks_of c.args.limit (layout_of c.args.layout.now) ≡ flat_checks_of (layout_of c.args.layout.now).shape = rw (le-ltb c.args.limit (layout_of c.args.layout.now).head.width narrow) refl in
-    IfOk-weaker c.flat_checks.result _ (λ cs. checks_in cs.items ≡ passed_checks_of c.args.limit (layout_of c.args.layout.now)) (λ cs e. e ∙ sym is) c.flat_checks.ensures
+    let few : is_wide (layout_of c.args.layout.now).head ≡ false = sym c.is_wide.ensures ∙ c.if-is_wide.false in
+    IfOk-weaker c.flat.result _ (λ cs. checks_in cs.items ≡ passed_checks_of c.args.limit (layout_of c.args.layout.now))
+    (λ cs e. narrow_some (is_wide (layout_of c.args.layout.now).head) no_checks (flat_checks_of (layout_of c.args.layout.now).shape) (checks_in cs.items) few e ∙ sym is) c.flat.ensures
