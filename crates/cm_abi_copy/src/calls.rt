@@ -84,6 +84,7 @@ pub fn copy_call(from: &Copier<'_>, passed: &Passed<'_>, memory: &mut [u8], slot
 
 /// Copies the values that core values pass as [`copy_call`] does, by the puts of what passes their
 /// types (`cm_abi_programs`), which are listed once: the layout is not walked.
+#[inline(always)]
 pub fn put_call(
     from: &Copier<'_>,
     passed: &Passed<'_>,
@@ -126,6 +127,7 @@ pub fn put_call(
 
 /// Copies the values that core values pass by the puts of what passes their types, where there are
 /// some, else by their layout.
+#[inline(always)]
 pub(crate) fn copy_passed(
     from: &Copier<'_>,
     passed: &Passed<'_>,

@@ -115,6 +115,7 @@ pub fn copy_by(
 }
 
 /// `copy`, by puts where there are some, else by the layout.
+#[inline(always)]
 fn copy_either(
     kept: &mut Scan,
     memory: &mut [u8],

@@ -23,6 +23,7 @@ use cm_abi_running::laws::running_checks_is_lifting_flat;
 
 /// Scans the tuple of the values that are passed, for strings to be stored in an encoding: by the
 /// checks of what passes it, where there are some, else by its layout.
+#[inline(always)]
 pub(crate) fn scan_passed(
     giver: &Giver<'_>,
     target: StringEncoding,
@@ -59,6 +60,7 @@ pub(crate) fn scan_passed(
 }
 
 /// Scans the tuple of the values that are passed by the checks of what passes it.
+#[inline(always)]
 fn scan_by_checks(
     reader: &Reader<'_, Recorder>,
     passed: &Passed<'_>,

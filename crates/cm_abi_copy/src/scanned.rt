@@ -114,6 +114,7 @@ pub fn scan_by(
 }
 
 /// `scan`, by checks where there are some, else by the layout.
+#[inline(always)]
 fn scan_either(
     alloc: Global,
     kept: &mut Scan,

@@ -195,6 +195,7 @@ pub fn is_sound(table: &Table)
 /// Refused at the first that cannot be handed over, with the table as it was: with `NoHandle`, else
 /// `WrongResource`, else for one to be owned `StillLent`, else `NotOwned`. `EngineMemory` comes
 /// where there is no memory for what is handed over; where nothing is, none is taken.
+#[inline(always)]
 pub fn hand_over(table: &mut Table, met: &[MetHandle], handed: &mut Handed) -> Result<(), AbiFault>
     requires lends { LendsBelow (2 ^ 100) table.old.handles }
     ensures ok { OnOk result (hand_over (untouched table.old.handles) met.now

@@ -88,6 +88,7 @@ fn is_short_ascii(reader: &Reader<'_, Recorder>, pointer: u32, size: u32, left: 
 }
 
 /// Looks at the string at a pointer, of a tagged length, and keeps its record.
+#[inline(always)]
 pub(crate) fn look_at_text(
     reader: &Reader<'_, Recorder>,
     pointer: u32,
@@ -200,6 +201,7 @@ fn keep_list(
 /// record of each part and each handle that is met, and stops at the first fault, or with `Memory`
 /// where there is none for what is kept.
 #[cycle(looking)]
+#[inline(always)]
 pub(crate) fn look_at(
     reader: &Reader<'_, Recorder>,
     checks: &[Check],

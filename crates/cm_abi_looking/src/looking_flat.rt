@@ -19,6 +19,7 @@ use cm_types::CoreValue;
 /// record of each part and each handle that is met, and stops at the first fault, or with `Memory`
 /// where there is none for what is kept.
 #[cycle(looking_flat)]
+#[inline(always)]
 pub(crate) fn look_at_flat(
     reader: &Reader<'_, Recorder>,
     checks: &[Check],

@@ -32,6 +32,7 @@ use cm_layout::laws::layouts;
 /// At that pointer it stops with `Misaligned` where it is not aligned with the tuple, else with
 /// `PointerBounds` where the tuple passes the end of the memory; else at the first fault of the
 /// values in reading order, or with `Memory` where there is none for what is kept.
+#[inline(always)]
 pub fn look_at_passed(
     reader: &Reader<'_, Recorder>,
     passed: &Passed<'_>,
@@ -59,6 +60,7 @@ pub fn look_at_passed(
 }
 
 /// Looks by its checks at the value at a pointer, of which its own bytes are the first part.
+#[inline(always)]
 fn look_at_spilled(
     reader: &Reader<'_, Recorder>,
     layout: &Layout,

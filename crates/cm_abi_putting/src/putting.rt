@@ -173,6 +173,7 @@ fn is_bulk(puts: &[Put], size: u32) -> bool
 /// Each string and list is stored at the place of the next part, and of each handle the next
 /// number. The next part and the next handle are then those behind the value's; it takes no memory.
 #[cycle(putting)]
+#[inline(always)]
 pub fn put_all(
     from: &Copier<'_>,
     memory: &mut [u8],

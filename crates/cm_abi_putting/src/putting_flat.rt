@@ -146,6 +146,7 @@ fn put_flat_list(
 /// Each string and list is stored at the place of the next part, and of each handle the next number
 /// is put. The next part and the next handle are then those behind the value's; it takes no memory.
 #[cycle(putting_flat)]
+#[inline(always)]
 pub fn put_flat_all(
     from: &Copier<'_>,
     given: &[CoreValue],

@@ -37,6 +37,7 @@ pub fn size_of_part(from: &Copier<'_>, part: usize) -> usize
 /// Writes the bytes of the string at a pointer, of a tagged length, in the target's encoding, where
 /// they are so many, to an address of a memory; both addresses are in bytes from 0
 /// (CanonicalABI.md, "Storing" of strings). The string can be copied as the part of this number.
+#[inline(always)]
 pub fn write_text_at(
     from: &Copier<'_>,
     pointer: u32,

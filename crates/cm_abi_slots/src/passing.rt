@@ -72,19 +72,27 @@ fn number_by(step: SlotStep, number: u32) -> Result<u32, AbiFault>
     }
 }
 
-/// What a core value becomes by a step.
+/// Passes a core value by its step, in place; a number of 32 bits that stays is not written.
 ///
 /// It fails with `BadChar` where it has to be a Unicode scalar and is none.
-fn passed_by(step: SlotStep, slot: CoreValue) -> Result<CoreValue, AbiFault>
-    ensures fits { FitsKind slot }
-    ensures passed { IfOk result (λ s. s ≡ passed_by step slot) }
-    ensures fine { OnOk result (IsFine step slot) }
-    ensures fault { IfErr result (λ f. (f ≡ AbiFault.BadChar) × (IsFine step slot → ⊥)) }
+#[inline(always)]
+fn pass_slot(step: SlotStep, slot: &mut CoreValue) -> Result<(), AbiFault>
+    ensures fits { FitsKind slot.old }
+    ensures passed { OnOk result (slot.new ≡ passed_by step slot.old) }
+    ensures fine { OnOk result (IsFine step slot.old) }
+    ensures fault { IfErr result (λ f.
+        (f ≡ AbiFault.BadChar) × (IsFine step slot.old → ⊥) × (slot.new ≡ slot.old)) }
 {
-    match slot {
-        CoreValue::I32(number) => Ok(CoreValue::I32(number_by(step, number)?)),
-        CoreValue::I64(_) => Ok(slot),
+    match *slot {
+        CoreValue::I32(number) => {
+            if let SlotStep::Keep = step {
+                return Ok(());
+            }
+            *slot = CoreValue::I32(number_by(step, number)?);
+        }
+        CoreValue::I64(number) => *slot = CoreValue::I64(number),
     }
+    Ok(())
 }
 
 /// Passes core values by their steps, each in place: what they denote by the types of a call is
@@ -110,7 +118,7 @@ pub fn pass_slots(steps: &[SlotStep], slots: &mut [CoreValue]) -> Result<(), Abi
     ensures kinds { map kind_of slots.new ≡ map kind_of slots.old }
 {
     for i in 0..slots.len() {
-        slots[i] = passed_by(steps[i], slots[i])?;
+        pass_slot(steps[i], &mut slots[i])?;
     }
     Ok(())
 }

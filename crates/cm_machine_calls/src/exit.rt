@@ -101,6 +101,20 @@ fn lift_result(
     Ok(())
 }
 
+/// The call again, with the phase that it is known to be in, so that nothing else is copied.
+#[inline(always)]
+fn call_in(call: &Call, phase: Phase) -> Call
+    requires { call.now.phase ≡ phase }
+    ensures { result ≡ call.now }
+{
+    Call {
+        caller: call.caller,
+        func: call.func,
+        result_at: call.result_at,
+        phase,
+    }
+}
+
 /// The call, while its result is placed.
 fn in_results(call: &Call) -> Call
     ensures { result ≡ in_results call.now }
@@ -236,6 +250,7 @@ pub(crate) fn exit_call(state: &mut State, link: &Link, call: &Call, values: &mu
 
 /// Goes on once the value of the call on top was lowered, whose core values `values` has: the
 /// body begins with them, or the call finishes.
+#[inline(always)]
 pub(crate) fn enter_or_exit(
     state: &mut State,
     link: &Link,
@@ -287,9 +302,15 @@ pub fn return_in_call(
         → OnOk result (IsKept plan state.new) }
 {
     match call.phase {
-        Phase::Arguments => { return_answer(alloc, state, call, link, Way::Params, given, values) }
+        Phase::Arguments => {
+            let call = call_in(call, Phase::Arguments);
+            return_answer(alloc, state, &call, link, Way::Params, given, values)
+        }
         Phase::Body => return_body(alloc, state, call, link, given, values),
-        Phase::Results => { return_answer(alloc, state, call, link, Way::Results, given, values) }
+        Phase::Results => {
+            let call = call_in(call, Phase::Results);
+            return_answer(alloc, state, &call, link, Way::Results, given, values)
+        }
         Phase::PostReturn { result } => { return_post_return(state, call, result, given, values) }
     }
 }

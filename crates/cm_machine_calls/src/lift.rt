@@ -86,6 +86,7 @@ pub(crate) fn few_lends(lends: &[Lend])
 /// handles that are owned go out of the giver's table, and their resources are on their way; those
 /// that are borrowed are lent, and stand in what is kept of the scan until `lend` puts them among
 /// the lends. Else the answer is the trap, and the state is as it was.
+#[inline(always)]
 pub(crate) fn lift_flat_values(
     alloc: Global,
     state: &mut State,

@@ -251,6 +251,7 @@ fn count_borrows(state: &mut State, to: Receiver, borrowed: usize)
 /// Lowers the value on its way to its receiver (CanonicalABI.md, `lower_flat_values`): its bytes
 /// stand in the receiver's memory, its handles in its table, and the core values that pass it in
 /// `values`; nothing is on its way then. Else the answer is the trap, and the state is as it was.
+#[inline(never)]
 pub(crate) fn lower_flat_values(
     alloc: Global,
     state: &mut State,

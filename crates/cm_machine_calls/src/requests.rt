@@ -81,6 +81,7 @@ pub(crate) fn keep_answer(state: &mut State, receiver: u32, at: u32) -> Result<(
 /// Goes on with the value on its way in the call on top, over a link, that way: its receiver's
 /// allocator is asked for the next request; behind the last the value is handed over, and the body
 /// begins, or the call finishes.
+#[inline(always)]
 pub(crate) fn go_on(
     alloc: Global,
     state: &mut State,
@@ -126,6 +127,7 @@ pub(crate) fn go_on(
 ///
 /// An answer that is not aligned, or passes the end of the receiver's memory, traps, with the state
 /// as it was.
+#[inline(always)]
 pub(crate) fn answer(
     alloc: Global,
     state: &mut State,
@@ -162,6 +164,7 @@ pub(crate) fn answer(
 }
 
 /// The return of an allocator: its answer, an `i32`, is kept, and the call goes on.
+#[inline(always)]
 pub(crate) fn return_answer(
     alloc: Global,
     state: &mut State,

@@ -25,6 +25,7 @@ fn unlend_all(tables: &mut Vec<Table>, lends: &[Lend])
 }
 
 /// Ends the call on top: its lends end, and its frame goes.
+#[inline(always)]
 pub fn end_call(state: &mut State)
     requires { CanEnd state.old }
     ensures ended { state_of state.new

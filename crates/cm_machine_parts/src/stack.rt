@@ -80,6 +80,7 @@ impl Stack {
     }
 
     /// Puts a frame on top, for which nothing is borrowed; there is room for it.
+    #[inline(always)]
     pub fn push(&mut self, frame: Frame)
         requires { length self.old.frames < MAX_FRAMES }
         ensures frames { self.new.frames ≡ frame ∷ self.old.frames }
@@ -106,6 +107,7 @@ impl Stack {
     }
 
     /// Puts a frame in the place of the one on top.
+    #[inline(always)]
     pub fn turn(&mut self, frame: Frame)
         requires { 0 < length self.old.frames }
         ensures frames { self.new.frames ≡ frame ∷ below_top self.old.frames }

@@ -1,7 +1,7 @@
 //! The running set: its steps, and whole runs.
 
 ghost use Rattle.std.specs.Prelude.{◌≡◌, ◌<◌, ◌≤◌, ◌↔◌, ◌⊎◌, List, [], ◌∷◌, length, slice_get};
-ghost use Rattle.std.specs.Prelude.{IfErr, IfOk, IsErrOf, OnErr, OnOk, Option, Some, None, ℕ};
+ghost use Rattle.std.specs.Prelude.{IfErr, IfOk, IsErrOf, Ok, OnErr, OnOk, Option, Some, None, ℕ};
 ghost use Rattle.std.specs.Prelude.{◌==◌, false, filter, true, vec_capacity};
 ghost use Rattle.std.specs.Option.{option_copied, option_map};
 ghost use Rattle.std.specs.Result.{result_err};
@@ -204,40 +204,41 @@ fn forget_behind_trap(outcome: Outcome, values: &mut Flat)
     }
 }
 
-/// The event of an outcome, with these core values.
-fn event(outcome: Outcome, values: Flat) -> Event
-    ensures { result ≡ event_of outcome values }
+/// The event of an outcome, with these core values. Each is made in the place of the answer.
+#[inline(always)]
+fn event(outcome: Outcome, values: Flat) -> Result<Event, Misuse>
+    ensures { result ≡ Ok (event_of outcome values) }
 {
     match outcome {
-        Outcome::Done => Event::Done,
-        Outcome::Grown(pages) => Event::Grown(pages),
-        Outcome::Enter { instance, func } => Event::Enter {
+        Outcome::Done => Ok(Event::Done),
+        Outcome::Grown(pages) => Ok(Event::Grown(pages)),
+        Outcome::Enter { instance, func } => Ok(Event::Enter {
             instance,
             func,
             args: values,
-        },
-        Outcome::Realloc { instance, func } => Event::Realloc {
+        }),
+        Outcome::Realloc { instance, func } => Ok(Event::Realloc {
             instance,
             func,
             args: values,
-        },
-        Outcome::Resume { instance } => Event::Resume { instance, values },
-        Outcome::PostReturn { instance, func } => Event::PostReturn {
+        }),
+        Outcome::Resume { instance } => Ok(Event::Resume { instance, values }),
+        Outcome::PostReturn { instance, func } => Ok(Event::PostReturn {
             instance,
             func,
             args: values,
-        },
+        }),
         Outcome::Dtor {
             instance,
             func,
             rep,
-        } => Event::Dtor {
+        } => Ok(Event::Dtor {
             instance,
             func,
             rep,
-        },
-        Outcome::Trapped(trap) => Event::Trapped(trap),
-        Outcome::Ended => Event::Ended,
+        }),
+        Outcome::Trapped(trap) => Ok(Event::Trapped(trap)),
+        Outcome::Ended => Ok(Event::Ended),
     }
 }
 
@@ -422,7 +423,7 @@ impl Set {
     {
         let mut values = Flat::new();
         match self.step_in(made, &mut values) {
-            Ok(outcome) => Ok(event(outcome, values)),
+            Ok(outcome) => event(outcome, values),
             Err(misuse) => Err(misuse),
         }
     }
