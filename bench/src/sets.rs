@@ -87,8 +87,14 @@ fn short_names(count: usize) -> impl Iterator<Item = String> {
 /// The factor of the library's hash of a text, by which each byte is added and multiplied.
 const FACTOR: u64 = 0x9e37_79b9_7f4a_7c15;
 
-/// The places that a table of 131,072 texts has: fewer texts have a power of two, too.
+/// The places that a table of 131,072 texts has, of which none was announced: fewer texts have a
+/// power of two, too.
 const PLACES: u64 = 1 << 20;
+
+/// The places that a table has of which so many texts were announced.
+fn announced(count: usize) -> u64 {
+    8 * (count as u64 / 2 + 1)
+}
 
 /// The letters of a number below 26^4.
 fn four_letters(at: u32) -> [u8; 4] {
@@ -103,26 +109,41 @@ fn added(letters: [u8; 4], behind: u32) -> u64 {
     (0..behind).fold(hash, |hash, _| hash.wrapping_mul(FACTOR))
 }
 
-/// The place at which a text of this hash is looked for first.
-fn place(hash: u64) -> u64 {
-    (hash >> 32) % PLACES
+/// The place, of so many, at which a text of this hash is looked for first.
+fn place(hash: u64, places: u64) -> u64 {
+    (hash >> 32) % places
 }
 
-/// Names of eight letters that the library looks for first at one place, the first, of each of its
-/// tables of up to 131,072 texts.
-fn crafted_names(count: usize) -> impl Iterator<Item = String> + Clone {
+/// The places that what is behind four letters may have alone, so that the sum of both hashes has
+/// the first one: by whether their low halves have a carry, and whether the sum passes 64 bits.
+fn places_behind(hash: u64, places: u64) -> Vec<u64> {
+    let past = (1 << 32) % places;
+    let mut all: Vec<u64> = [(0, 0), (0, 1), (past, 0), (past, 1)]
+        .iter()
+        .map(|(past, carry)| (past + 2 * places - place(hash, places) - carry) % places)
+        .collect();
+    all.sort_unstable();
+    all.dedup();
+    all
+}
+
+/// Names of eight letters that the library looks for first at one place, the first, of a table of
+/// so many places: the powers of two up to `PLACES`, or as many as for names that are announced.
+fn crafted_names(count: usize, places: u64) -> impl Iterator<Item = String> + Clone {
     let mut ends: Vec<(u64, u32)> =
         (0..26u32.pow(4)).map(|at| (added(four_letters(at), 0), at)).collect();
-    ends.sort_by_key(|(hash, _)| place(*hash));
+    ends.sort_by_key(|(hash, _)| place(*hash, places));
     let fits = |front: u32| {
         let hash = added(four_letters(front), 4);
-        let wanted = [0, 1].map(|carry| (2 * PLACES - place(hash) - carry) % PLACES);
-        let found = wanted.map(|wanted| {
-            let from = ends.partition_point(|(end, _)| place(*end) < wanted);
-            let to = ends.partition_point(|(end, _)| place(*end) <= wanted);
-            ends[from..to].to_vec()
-        });
-        found.concat().into_iter().filter(move |(end, _)| place(hash.wrapping_add(*end)) == 0)
+        let found: Vec<(u64, u32)> = places_behind(hash, places)
+            .into_iter()
+            .flat_map(|wanted| {
+                let from = ends.partition_point(|(end, _)| place(*end, places) < wanted);
+                let to = ends.partition_point(|(end, _)| place(*end, places) <= wanted);
+                ends[from..to].to_vec()
+            })
+            .collect();
+        found.into_iter().filter(move |(end, _)| place(hash.wrapping_add(*end), places) == 0)
     };
     let names: Vec<String> = (0..26u32.pow(4))
         .flat_map(|front| fits(front).map(move |(_, end)| [front, end].map(four_letters).concat()))
@@ -264,11 +285,11 @@ type Kind = (&'static str, fn(usize) -> Vec<u8>);
 /// other names as long.
 const KINDS: [Kind; 7] = [
     ("imports", many_imports),
-    ("crafted imports", |count| named_imports(crafted_names(count))),
+    ("crafted imports", |count| named_imports(crafted_names(count, announced(count)))),
     ("other imports", |count| named_imports(plain_names(count))),
-    ("crafted inline exports", |count| inline_exports(crafted_names(count))),
+    ("crafted inline exports", |count| inline_exports(crafted_names(count, PLACES))),
     ("other inline exports", |count| inline_exports(plain_names(count))),
-    ("crafted core exports", |count| core_exports(crafted_names(count))),
+    ("crafted core exports", |count| core_exports(crafted_names(count, PLACES))),
     ("other core exports", |count| core_exports(plain_names(count))),
 ];
 
@@ -354,17 +375,20 @@ pub fn run() {
         of_file(&format!("{count} imports of one function"), &many_imports(count), count);
     }
     for count in [25_000, 100_000] {
-        let crafted = named_imports(crafted_names(count));
+        let crafted = named_imports(crafted_names(count, announced(count)));
         of_file(&format!("{count} imports with crafted names"), &crafted, count);
         let benign = named_imports(plain_names(count));
         of_file(&format!("{count} imports with other names as long"), &benign, count);
-        let (crafted, plain) = (inline_exports(crafted_names(count)), inline_exports(plain_names(count)));
+        let crafted = inline_exports(crafted_names(count, PLACES));
+        let plain = inline_exports(plain_names(count));
         of_file(&format!("{count} inline exports with crafted names"), &crafted, 1);
         of_file(&format!("{count} inline exports with other names"), &plain, 1);
-        let (crafted, plain) = (core_exports(crafted_names(count)), core_exports(plain_names(count)));
+        let crafted = core_exports(crafted_names(count, PLACES));
+        let plain = core_exports(plain_names(count));
         of_file(&format!("{count} core exports with crafted names"), &crafted, 0);
         of_file(&format!("{count} core exports with other names"), &plain, 0);
-        let (crafted, plain) = (named_pair(crafted_names(count)), named_pair(plain_names(count)));
+        let crafted = named_pair(crafted_names(count, announced(count)));
+        let plain = named_pair(plain_names(count));
         of_set(&format!("{count} crafted names, linked"), &crafted, count);
         of_set(&format!("{count} other names, linked"), &plain, count);
     }
