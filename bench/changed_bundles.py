@@ -1,15 +1,15 @@
 #!/usr/bin/env python3
-"""bench/changed_bundles.py: writes crates/rows_bundles/data/changed.rows.
+"""bench/changed_bundles.py: writes crates/rows_library/data/changed.rows.
 
 Each byte of two bundles is changed in three ways, and of each the answer is worked out by a second
-reader of the grammar of crates/cm_bundle_form/README.md, which is written here from that page and
+reader of the grammar of crates/cm_bundle/FORM.md, which is written here from that page and
 from Binary.md: what the bytes spell, or the first fault and its place.
 """
 
 from pathlib import Path
 
 TOP = Path(__file__).resolve().parent.parent
-ROWS = TOP / "crates" / "rows_bundles" / "data" / "changed.rows"
+ROWS = TOP / "crates" / "rows_library" / "data" / "changed.rows"
 PREAMBLE = bytes.fromhex("0061736d0d000100")
 BUNDLES = {
     "one": "0061736d0d000100 0401aa 060100 050401000000 060100 0b0100",

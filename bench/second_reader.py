@@ -2,7 +2,7 @@
 """A second reader of component files, written from Binary.md and from docs/RULES.md alone.
 
 It reads files with shims and without, byte by byte, and names the first fault. Nothing of the
-library is used: rows of `crates/rows_files/data/sweeps.rows` hold the library's answers to those of
+library is used: rows of `crates/rows_library/data/sweeps.rows` hold the library's answers to those of
 this reader.
 
 bench/second_reader.py FILE.. prints for each file what `shims sweep` wants of it: how many damaged

@@ -2,10 +2,10 @@
 
 Each folder of examples/ with a script has a README.md whose first command plays it, `output`, which
 is what is printed then, and, where something is said on standard error, `errors`. The README says
-the exit status. `crates/rows_tool/data/examples.rows` plays the same files, in memory. The page of
-examples/live has a command for each NAME.script, which is to print NAME.events, and on standard
-error NAME.errors, where that is there; `crates/rows_hux/data/programs.rows` plays those. What the page shows is what was recorded. The
-values and the picture that end a page are what `crates/rows_hux/data/plays.rows` wants of `hux`.
+the exit status. `rows/tool/examples.rows` plays the same files. The page of examples/live has a
+command for each NAME.script, which is to print NAME.events, and on standard error NAME.errors,
+where that is there; `rows/hux/programs.rows` plays those. What the page shows is what was recorded.
+The values and the picture that end a page are what `rows/hux/plays.rows` wants of `hux`.
 """
 
 import re
@@ -13,9 +13,9 @@ import sys
 from pathlib import Path
 
 TOP = Path(__file__).resolve().parent.parent
-ROWS = TOP / "crates" / "rows_tool" / "data" / "examples.rows"
+ROWS = TOP / "rows" / "tool" / "examples.rows"
 LIVE = TOP / "examples" / "live"
-PROGRAM_ROWS = TOP / "crates" / "rows_hux" / "data" / "programs.rows"
+PROGRAM_ROWS = TOP / "rows" / "hux" / "programs.rows"
 HEAD = "# {}: written by checks/examples --write, of the files in examples/.\n"
 STATUS = {"ended": 0, "trapped": 3}
 
@@ -88,7 +88,7 @@ def shown_on(page, before, behind):
 
 def unshown(folders):
     """The folders whose page does not end with the values and the picture that the rows want."""
-    rows = (TOP / "crates" / "rows_hux" / "data" / "plays.rows").read_text(encoding="utf-8")
+    rows = (TOP / "rows" / "hux" / "plays.rows").read_text(encoding="utf-8")
     for folder in folders:
         page = (folder / "README.md").read_text(encoding="utf-8")
         for option, before, behind in (

@@ -1,22 +1,20 @@
 """What rows answer where one allocation is refused.
 
 A row that finds no memory is answered once more, so a refusal changes no answer: the call that was
-refused left all as it was. Three kinds of answers show the refusal themselves: a move of a set ends
-in trap 20 (and what comes behind it in the block is not judged), a play of the command ends in that
-trap or in a fault, and a list of answers has `Memory@PLACE`, or `fault Memory` in the place of the
-first answer that differs (those behind it may cite it). A program that cannot read or print a
-row ends with status 1, and what it printed is a beginning; a row of which it cannot read a part is
-`no row` or `no memory` to it.
+refused left all as it was. Two kinds of answers show the refusal themselves: a move of a set ends
+in trap 20 (and what comes behind it in the block is not judged), and a list of answers has
+`Memory@PLACE`, or `fault Memory` in the place of the first answer that differs (those behind it may
+cite it). A program that cannot read or print a row ends with status 1, and what it printed is a
+beginning; a row of which it cannot read a part is `no row` or `no memory` to it.
 """
 
 import re
 
-from rows import run, write_block
+from blocks import run, write_block
 
 # The events of moves that may want memory: a growth, what a call or a return hands over or asks
 # for, and a handle that is made.
 WANTING = re.compile(r"grown \d|enter |realloc |postreturn |resume |trapped ")
-PLAYED = re.compile(r"status (\d+), out (.*), err (.*)")
 UNREAD = ("no row", "no memory")
 SIZED = re.compile(r"\d+ bytes")
 DRIVEN = re.compile(r"misuse (Busy|Closed|Idle)( seats .*)?")
@@ -43,38 +41,6 @@ def lacks_in_drive(got, wanted):
     return is_driven and bool(DRIVEN.fullmatch(got))
 
 
-def lacks_in_play(got, wanted):
-    """Whether a play ends for want of memory: in trap 20, in a fault or misuse of memory, or with
-    its fault cut."""
-    ours, whole = PLAYED.fullmatch(got), PLAYED.fullmatch(wanted)
-    if not ours or not whole:
-        return False
-    # The row reads objects back: 255 with all as wanted is that it found no memory for that.
-    if ours[1] == "255":
-        return ours[2] == whole[2] and ours[3] == whole[3]
-    lines, all_lines = (it[2].removeprefix("-").split("\\n")[:-1] for it in (ours, whole))
-    if lines and lines[-1].startswith('{"fault":') and lines[-1] not in all_lines:
-        lines.pop()
-    if "trapped 20" in lines:
-        at = lines.index("trapped 20")
-        is_beginning = at < len(all_lines) and lines[:at] == all_lines[:at]
-        return is_beginning and ours[1] == "3" and bool(WANTING.match(all_lines[at]))
-    if ours[1] == whole[1] and lines == all_lines and len(ours[3]) < len(whole[3]):
-        return True
-    is_told = any(word in ours[3] for word in ("Memory", "no memory", "misuse 6", "Write"))
-    return is_told and lines == all_lines[:len(lines)] and ours[1] in "134"
-
-
-def lacks_in_check(got, wanted):
-    """Whether `hux check` says of a file, in its line, that it found no memory for it."""
-    ours, whole = PLAYED.fullmatch(got), PLAYED.fullmatch(wanted)
-    if not ours or not whole or ours[3] != whole[3]:
-        return False
-    lines, all_lines = ours[2].split("\\n"), whole[2].split("\\n")
-    return len(lines) == len(all_lines) and ours[1] in "14" and all(
-        line == other or "Memory" in line for line, other in zip(lines, all_lines))
-
-
 def lacks_in_move(got, wanted):
     """Whether a move, or the last one of a run, ends in trap 20 where its event may want memory."""
     if not TRAPPED.fullmatch(got):
@@ -86,8 +52,7 @@ def lacks_in_move(got, wanted):
 
 
 def lacks_in_cuts(got, wanted):
-    """Whether a command that is run with less and less room for its output ended otherwise for one
-    of these: it found no memory there, or none for the line that says so."""
+    """Whether beginnings of a file, of which each is read, ended otherwise for one of them."""
     return wanted.startswith("below ") and got.startswith("below ")
 
 
@@ -101,28 +66,9 @@ def lacks_in_words(got, wanted):
     return ": " in got and wanted.startswith(f"{got}: ")
 
 
-def lacks_in_session(got, wanted):
-    """Whether the first line of a session's answers that is another one tells that there was no
-    memory, for a line or for what its move wants; or serving ended there by an error."""
-    written = got.removesuffix(" Err")
-    if written != got:
-        return wanted.startswith(written.removeprefix("-"))
-    differing = (ours for ours, whole in zip(got.split("\\n"), wanted.split("\\n"))
-                 if ours != whole)
-    return next(differing, "") in ("error: no memory", "error: misuse 6: out of memory",
-                                   "trapped 20")
-
-
-def lacks_in_servings(got, wanted):
-    """Whether one of many servings of the same lines was answered otherwise, or all of them where
-    the one that they are held to was."""
-    return bool(re.fullmatch(rf"(?:not at \d+, )+{re.escape(wanted)}", got))
-
-
 # What shows the refusal, so that the rows behind it are not judged.
 LAST = (
-    lacks_in_move, lacks_in_list, lacks_in_play, lacks_in_check, lacks_in_drive, lacks_in_cuts,
-    lacks_in_text, lacks_in_words, lacks_in_session, lacks_in_servings,
+    lacks_in_move, lacks_in_list, lacks_in_drive, lacks_in_cuts, lacks_in_text, lacks_in_words,
 )
 
 
@@ -138,7 +84,7 @@ def are_right(differing, rows):
     return True
 
 
-def judge(done, program_families, block):
+def judge(done, block):
     """Whether what was printed may be, whether all was, and whether a row differs."""
     rows, differing, counted = block.all(), {}, []
     for line in done.lines:
@@ -149,21 +95,20 @@ def judge(done, program_families, block):
             counted.append(line)
     passed = len(rows) - len(differing)
     of_family = f"{passed} of {len(rows)} rows pass" if differing else f"{len(rows)} rows pass"
-    wanted = sorted(
-        f"{it}: {of_family if it == block.family else '0 rows pass'}" for it in program_families)
-    is_whole = sorted(counted) == wanted
-    is_right = are_right(differing, rows) and set(counted) <= set(wanted)
+    wanted = [f"{block.family}: {of_family}"]
+    is_whole = counted == wanted
+    is_right = are_right(differing, rows) and counted in ([], wanted)
     return is_right and done.status == (bool(differing) if is_whole else 1), is_whole, differing
 
 
-def sweep(program, families, folder, block, most):
+def sweep(program, folder, block, most):
     """Refuses each allocation of a block, or `most` of them at equal distances where it has more:
     how many were refused, how many of these showed, how many ended the program, how many answers
     were wrong, and how many allocations were left out."""
-    write_block(program, folder, block)
+    write_block(folder, block)
     first = block.rows[-1][0][:160]
-    done = run(program, folder)
-    is_right, is_whole, differing = judge(done, families, block)
+    done = run(program, folder, block.family)
+    is_right, is_whole, differing = judge(done, block)
     if not is_right or not is_whole or differing:
         print(f"{program}: not as wanted with all memory: {first}")
         return 0, 0, 0, 1, 0
@@ -171,8 +116,8 @@ def sweep(program, families, folder, block, most):
     numbers = range(1, done.asked + 1, step)
     shown = ended = wrong = 0
     for refused in numbers:
-        done = run(program, folder, refused)
-        is_right, is_whole, differing = judge(done, families, block)
+        done = run(program, folder, block.family, refused)
+        is_right, is_whole, differing = judge(done, block)
         shown += is_whole and bool(differing)
         ended += not is_whole
         if not is_right:

@@ -1,4 +1,4 @@
-"""Holds what the page of examples/real says that `hux` prints to the rows of rows_hux.
+"""Holds what the page of examples/real says that `hux` prints to its rows.
 
 Behind a line that begins with the name of a file stand lines of `hux show` and of `hux core`, those
 with a number: each a whole line of what the row of that command and file prints, in order. A long
@@ -11,7 +11,7 @@ from pathlib import Path
 
 TOP = Path(__file__).resolve().parent.parent
 PAGE = TOP / "examples" / "real" / "README.md"
-ROWS = TOP / "crates" / "rows_hux" / "data" / "real.rows"
+ROWS = TOP / "rows" / "hux" / "real.rows"
 HEAD = "## What `hux` says"
 NAMED = re.compile(r"`(\S+\.wasm)`,")
 ROW = re.compile(r"hux run (show|core) (\S+) => status 0, out (.*), err -")

@@ -1,10 +1,12 @@
-/* Greets whom its one argument names, by the C library. */
+/* Greets whom its words name, by the C library. */
 #include <stdio.h>
 #include <string.h>
 
 int main(int count, char **words) {
-    if (count != 1) return 1;
-    printf("Hello, %s!\n", words[0]);
-    printf("That is %zu bytes, of which half are %.1f.\n", strlen(words[0]), strlen(words[0]) / 2.0);
-    return 0;
+    for (int i = 1; i < count; i++) {
+        printf("Hello, %s!\n", words[i]);
+        size_t size = strlen(words[i]);
+        printf("That is %zu bytes, of which half are %.1f.\n", size, (double)size / 2);
+    }
+    return count < 2;
 }

@@ -13,10 +13,10 @@ use Rattle.cm_abi_model.specs.Parts.{handle_count, handle_count_each, part_count
 use Rattle.cm_abi_model.specs.Stores.{Placed, Storing, bytes_of, from_signed, placed, store_each}
 use Rattle.cm_abi_model.specs.Texts.{bytes_from}
 use Rattle.cm_abi_store.specs.Storing.{stored_by, stored_by_fields}
-use Rattle.cm_abi_putting.proofs.LeafLemmas.{below_zero}
-use Rattle.cm_abi_putting.specs.Copying.{Copying, shown_to}
-use Rattle.cm_abi_putting.specs.Ready.{IsSound}
-use Rattle.cm_abi_putting.specs.Shown.{values_at, values_each}
+use Rattle.cm_abi_running.proofs.LeafLemmas.{below_zero}
+use Rattle.cm_abi_running.specs.Copying.{Copying, shown_to}
+use Rattle.cm_abi_running.specs.Ready.{IsSound}
+use Rattle.cm_abi_running.specs.Shown.{values_at, values_each}
 
 -- a number with so many bytes of 0 below it
 abbrev shift : ℕ → ℕ → ℕ

@@ -30,11 +30,11 @@ use Rattle.cm_abi_store.specs.Calls.{IsFlatTuple, IsProvided, IsSpilledTuple}
 use Rattle.cm_abi_store.specs.Fitting.{Fits}
 use Rattle.cm_abi_store.specs.FlatLowering.{behind_by, slots_by}
 use Rattle.cm_abi_store.specs.Storing.{given_of, stored_by}
-use Rattle.cm_abi_putting.specs.Copying.{copying_of, size_kept}
-use Rattle.cm_abi_putting.specs.declared.copier.Copier.{Copier}
-use Rattle.cm_abi_putting.specs.Known.{HasSizes, first_part}
-use Rattle.cm_abi_putting.specs.Ready.{IsSound}
-use Rattle.cm_abi_putting.specs.Shown.{without_handles}
+use Rattle.cm_abi_running.specs.Copying.{copying_of, size_kept}
+use Rattle.cm_abi_running.specs.declared.copier.Copier.{Copier}
+use Rattle.cm_abi_running.specs.Known.{HasSizes, first_part}
+use Rattle.cm_abi_running.specs.Ready.{IsSound}
+use Rattle.cm_abi_running.specs.Shown.{without_handles}
 use Rattle.cm_abi_copy.specs.CallCopies.{IsFlatCopy, IsSpilledCopy}
 use Rattle.cm_abi_copy.specs.FlatReady.{IsFlatReady}
 use Rattle.cm_abi_copy.specs.FlatShown.{flat_shown}

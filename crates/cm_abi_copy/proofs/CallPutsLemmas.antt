@@ -16,14 +16,14 @@ use Rattle.cm_abi_programs.specs.Puts.{Puts, no_puts, puts_of}
 use Rattle.cm_abi_programs.specs.SlotPuts.{SlotPuts, flat_puts_of, no_slots}
 use Rattle.cm_abi_store.specs.Storing.{given_of}
 use Rattle.cm_abi_store.specs.declared.target.Next.{Next}
-use Rattle.cm_abi_putting.specs.declared.copier.Copier.{Copier}
+use Rattle.cm_abi_running.specs.declared.copier.Copier.{Copier}
 use Rattle.cm_abi_copy.specs.CallPutting.{IsFlatPut, IsSpilledPut}
-use Rattle.cm_abi_putting.specs.Copying.{copying_of}
-use Rattle.cm_abi_putting.specs.PutsReady.{ArePutsReady}
-use Rattle.cm_abi_putting.specs.PutsWithin.{ArePutsWithin}
-use Rattle.cm_abi_putting.specs.PutsWritten.{LieBetween, Writes, running}
-use Rattle.cm_abi_putting.specs.SlotPutsReady.{AreSlotsReady, AreSlotsWithin}
-use Rattle.cm_abi_putting.specs.SlotsPassed.{PassesOn, SlotsLieWithin, passing}
+use Rattle.cm_abi_running.specs.Copying.{copying_of}
+use Rattle.cm_abi_running.specs.PutsReady.{ArePutsReady}
+use Rattle.cm_abi_running.specs.PutsWithin.{ArePutsWithin}
+use Rattle.cm_abi_running.specs.PutsWritten.{LieBetween, Writes, running}
+use Rattle.cm_abi_running.specs.SlotPutsReady.{AreSlotsReady, AreSlotsWithin}
+use Rattle.cm_abi_running.specs.SlotsPassed.{PassesOn, SlotsLieWithin, passing}
 use Rattle.cm_lemmas.proofs.Bools.{false_not_true}
 
 abbrev is_stored : CallPuts → Bool

@@ -22,7 +22,7 @@ use Rattle.cm_abi_store.specs.Kinds.{FitKinds, kind_limit, slot_limit}
 use Rattle.cm_abi_model.specs.Answered.{Requesting}
 use Rattle.cm_abi_model.specs.Scanned.{Scanned}
 use Rattle.cm_abi_model.specs.Ways.{way_of}
-use Rattle.cm_abi_putting.specs.declared.copier.Copier.{Copier}
+use Rattle.cm_abi_running.specs.declared.copier.Copier.{Copier}
 use Rattle.cm_abi_copy.specs.PassingOn.{CanBePassedOn}
 use Rattle.cm_abi_model.specs.HandleLeaves.{leaves_of}
 use Rattle.cm_abi_model.specs.declared.leaf.HandleLeaf.{HandleLeaf as CodedLeaf}

@@ -7,9 +7,9 @@ use Rattle.cm_layout.specs.Shapes.{Parts, Payloads, Shape, cases_shape, fields_s
 use Rattle.cm_abi_load.specs.Sized.{ArePartsSized, ArePayloadsSized}
 use Rattle.cm_abi_model.specs.declared.encoding.StringEncoding.{StringEncoding}
 use Rattle.cm_abi_store.specs.Sources.{IsCarriedReady, case_told, payload_in}
-use Rattle.cm_abi_putting.specs.Copying.{Copying}
-use Rattle.cm_abi_putting.specs.Ready.{FieldsLieIn, IsCaseReady, IsReady, IsSound, LiesIn, PayloadsLieIn}
-use Rattle.cm_abi_putting.specs.Shown.{case_at, value_at, values_each}
+use Rattle.cm_abi_running.specs.Copying.{Copying}
+use Rattle.cm_abi_running.specs.Ready.{FieldsLieIn, IsCaseReady, IsReady, IsSound, LiesIn, PayloadsLieIn}
+use Rattle.cm_abi_running.specs.Shown.{case_at, value_at, values_each}
 
 -- ---- what lies in the source
 

@@ -17,11 +17,11 @@ use Rattle.cm_abi_model.specs.Views.{View}
 use Rattle.cm_abi_load.specs.Outcomes.{State}
 use Rattle.cm_abi_load.specs.PartLaws.{ElementsAreRead, TextIsRead}
 use Rattle.cm_abi_store.specs.Fitting.{FitEach, FitFields, Fits, FitsCase}
-use Rattle.cm_abi_putting.specs.Copying.{Copying}
-use Rattle.cm_abi_putting.specs.Known.{HasSizes, HaveSizes}
+use Rattle.cm_abi_running.specs.Copying.{Copying}
+use Rattle.cm_abi_running.specs.Known.{HasSizes, HaveSizes}
 use Rattle.cm_abi_copy.specs.PartLaws.{ElementsAreCopied, TextIsCopied}
-use Rattle.cm_abi_putting.specs.Ready.{AreReady}
-use Rattle.cm_abi_putting.specs.Shown.{all_without_handles, values_each, without_handles}
+use Rattle.cm_abi_running.specs.Ready.{AreReady}
+use Rattle.cm_abi_running.specs.Shown.{all_without_handles, values_each, without_handles}
 use Rattle.cm_abi_copy.specs.FlatReady.{AreFlatFieldsReady, IsFlatCaseReady, IsFlatReady}
 use Rattle.cm_abi_copy.specs.FlatShown.{flat_shown, flat_shown_case, flat_shown_fields}
 

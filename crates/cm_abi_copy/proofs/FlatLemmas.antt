@@ -10,9 +10,9 @@ use Rattle.cm_abi_load.specs.Sized.{ArePartsSized, ArePayloadsSized}
 use Rattle.cm_abi_model.specs.Views.{Way, flat_limit, params, results}
 use Rattle.cm_abi_store.specs.FlatLowering.{ArePassedIn, IsPassedIn, PayloadsPassedIn}
 use Rattle.cm_abi_store.specs.Sources.{IsCarriedReady, case_told, payload_in}
-use Rattle.cm_abi_putting.specs.Copying.{Copying}
-use Rattle.cm_abi_putting.specs.Ready.{IsSound}
-use Rattle.cm_abi_putting.specs.Shown.{values_each}
+use Rattle.cm_abi_running.specs.Copying.{Copying}
+use Rattle.cm_abi_running.specs.Ready.{IsSound}
+use Rattle.cm_abi_running.specs.Shown.{values_each}
 use Rattle.cm_abi_copy.specs.FlatReady.{AreFieldsInSlots, ArePayloadsInSlots, IsFlatCaseReady, IsFlatReady, IsInSlots}
 use Rattle.cm_abi_copy.specs.FlatShown.{flat_shown, flat_shown_case}
 

@@ -10,7 +10,7 @@ use Rattle.cm_abi_model.specs.Receives.{behind_each, put}
 use Rattle.cm_abi_model.specs.Stores.{Given, Placed, place_of}
 use Rattle.cm_abi_store.specs.FlatLowering.{behind_by, behind_by_case, behind_by_fields, flat_number, slots_by, slots_by_case, slots_by_fields}
 use Rattle.cm_abi_store.specs.Storing.{stored_by}
-use Rattle.cm_abi_putting.specs.Shown.{all_without_handles, some_handle, without_handles}
+use Rattle.cm_abi_running.specs.Shown.{all_without_handles, some_handle, without_handles}
 use Rattle.cm_abi_copy.proofs.ReadLemmas.{same_count}
 use Rattle.cm_abi_copy.proofs.StoredLemmas.{each_stays, number_stays}
 

@@ -16,7 +16,7 @@ pub mod LeafLaws
 pub mod FoundLaws
 pub mod FlatTells
 mod TagLaws
-pub mod ScanCallCallLemmas
+pub mod ScanCallLemmas
 pub mod NothingLaws
 mod CallPutsLemmas
 pub mod PutWithin

@@ -36,7 +36,7 @@ use Rattle.cm_abi_model.specs.Lifts.{Hands}
 use Rattle.cm_abi_lift.specs.HandingOver.{handed}
 use Rattle.cm_abi_copy.specs.MetLeaves.{leaf_at, leaves_found, leaves_met}
 use Rattle.cm_abi_model.specs.Telling.{TellAll}
-use Rattle.cm_abi_copy.proofs.ScanCallCallLemmas.{FoundLaw, MetLaw, TellsLaw, WantedLaw, WasRead}
+use Rattle.cm_abi_copy.proofs.ScanCallLemmas.{FoundLaw, MetLaw, TellsLaw, WantedLaw, WasRead}
 use Rattle.cm_abi_lift.proofs.PassedLaws.{OnlyLaw}
 
 abbrev answer : {A : Type 0} → A × State → Outcome A

@@ -11,7 +11,7 @@ use Rattle.cm_abi_load.specs.Outcomes.{Outcome, State, mapped}
 use Rattle.cm_abi_lift.specs.Keeping.{KeepsMore, count_kept}
 use Rattle.cm_abi_lift.specs.Records.{Scans, ScansToKeep}
 use Rattle.cm_abi_running.specs.Checking.{Looked}
-use Rattle.cm_abi_looking.specs.Looks.{Looks}
+use Rattle.cm_abi_running.specs.Looks.{Looks}
 
 behind : (old : List PartRecord) (R : Val → List PartRecord) (r : Outcome Val) → mapped (λ v. old ++ R v) r ≡ mapped (λ rs. old ++ rs) (mapped R r)
 behind old R (Ok x) = refl

@@ -23,17 +23,17 @@ use Rattle.cm_abi_running.specs.Passing.{PassedOn, all_passed, lowered_as}
 use Rattle.cm_abi_running.specs.Putting.{Written, all_written, stored_as}
 use Rattle.cm_abi_copy.specs.CallCopies.{IsFlatCopy, IsSpilledCopy}
 use Rattle.cm_abi_copy.specs.CallPutting.{IsFlatPut, IsSpilledPut}
-use Rattle.cm_abi_putting.specs.Copying.{Copying, copying_of, shown_to}
-use Rattle.cm_abi_putting.specs.declared.copier.Copier.{Copier}
+use Rattle.cm_abi_running.specs.Copying.{Copying, copying_of, shown_to}
+use Rattle.cm_abi_running.specs.declared.copier.Copier.{Copier}
 use Rattle.cm_abi_copy.specs.FlatReady.{IsFlatReady}
 use Rattle.cm_abi_copy.specs.FlatShown.{flat_shown}
-use Rattle.cm_abi_putting.specs.Known.{CanBeCopied}
+use Rattle.cm_abi_running.specs.Known.{CanBeCopied}
 use Rattle.cm_abi_copy.specs.PassingOn.{CanBePassedOn}
-use Rattle.cm_abi_putting.specs.PutsReady.{ArePutsReady, seen_from}
-use Rattle.cm_abi_putting.specs.PutsWithin.{ArePutsWithin}
-use Rattle.cm_abi_putting.specs.Ready.{IsReady, IsSound}
-use Rattle.cm_abi_putting.specs.Shown.{without_handles}
-use Rattle.cm_abi_putting.specs.SlotPutsReady.{AreSlotsReady, AreSlotsWithin}
+use Rattle.cm_abi_running.specs.PutsReady.{ArePutsReady, seen_from}
+use Rattle.cm_abi_running.specs.PutsWithin.{ArePutsWithin}
+use Rattle.cm_abi_running.specs.Ready.{IsReady, IsSound}
+use Rattle.cm_abi_running.specs.Shown.{without_handles}
+use Rattle.cm_abi_running.specs.SlotPutsReady.{AreSlotsReady, AreSlotsWithin}
 use Rattle.cm_abi_copy.proofs.PutWithin.{slots_more}
 
 -- what the laws of copying, and of its puts, promise

@@ -13,8 +13,8 @@ use Rattle.cm_abi_programs.specs.Puts.{Put, Puts, CasePuts, no_puts, put, run_pu
 use Rattle.cm_abi_programs.specs.Puts.{are_unwritten, cases_puts, field_puts, is_bulk_of, leaf_puts, moved_put, one_put, payload_puts, put_count, put_then, puts_of, row_puts, two_puts, with_moved, with_placed, with_put}
 use Rattle.cm_abi_programs.specs.SlotPuts.{SlotPut, SlotPuts, CaseSlotPuts, no_slots, slot, leaf_slot, text_slot, list_slot, each_slot, cases_slot, handle_slot, part_slot}
 use Rattle.cm_abi_programs.specs.SlotPuts.{are_unput, both_slots, cases_slots, flat_field_puts, flat_payload_puts, flat_puts_of, moved_slot, moved_slots, one_slot, placed_slots, slot_count}
-use Rattle.cm_abi_putting.specs.PutsWithin.{AreCasePutsWithin, ArePutsWithin, IsPutWithin}
-use Rattle.cm_abi_putting.specs.SlotPutsReady.{AreCaseSlotsWithin, AreSlotsWithin, IsSlotWithin}
+use Rattle.cm_abi_running.specs.PutsWithin.{AreCasePutsWithin, ArePutsWithin, IsPutWithin}
+use Rattle.cm_abi_running.specs.SlotPutsReady.{AreCaseSlotsWithin, AreSlotsWithin, IsSlotWithin}
 
 -- ---- in memory
 

@@ -18,12 +18,12 @@ use Rattle.cm_abi_programs.specs.SlotPuts.{SlotPut, SlotPuts, CaseSlotPuts, no_s
 use Rattle.cm_abi_programs.specs.SlotPuts.{are_unput, both_slots, cases_slots, flat_field_puts, flat_payload_puts, flat_puts_of, moved_slot, moved_slots, one_slot, placed_slots, slot_count}
 use Rattle.cm_abi_running.specs.Passing.{PassedOn, all_passed, lowered_as, passed_on}
 use Rattle.cm_abi_running.specs.Putting.{Written, all_written, stored_as, written, written_then}
-use Rattle.cm_abi_putting.specs.Copying.{Copying, shown_to}
+use Rattle.cm_abi_running.specs.Copying.{Copying, shown_to}
 use Rattle.cm_abi_copy.specs.FlatReady.{AreFlatFieldsReady, IsFlatCaseReady, IsFlatReady}
 use Rattle.cm_abi_copy.specs.FlatShown.{flat_shown}
-use Rattle.cm_abi_putting.specs.PutsReady.{AreEachPutReady, ArePutsReady, Asks, IsCasePutReady, IsListPutReady, IsPutReady, Runs, seen_from}
-use Rattle.cm_abi_putting.specs.Ready.{AreElementsReady, AreFieldsReady, AreReady, IsCaseReady, IsReady, IsTextReady}
-use Rattle.cm_abi_putting.specs.SlotPutsReady.{AreEachSlotReady, AreSlotsReady, IsCaseSlotReady, IsSlotReady}
+use Rattle.cm_abi_running.specs.PutsReady.{AreEachPutReady, ArePutsReady, Asks, IsCasePutReady, IsListPutReady, IsPutReady, Runs, seen_from}
+use Rattle.cm_abi_running.specs.Ready.{AreElementsReady, AreFieldsReady, AreReady, IsCaseReady, IsReady, IsTextReady}
+use Rattle.cm_abi_running.specs.SlotPutsReady.{AreEachSlotReady, AreSlotsReady, IsCaseSlotReady, IsSlotReady}
 
 -- what the laws of running puts promise of those that are listed together
 pub record JoinsBelow : Type 0 where

@@ -23,10 +23,12 @@ use Rattle.cm_abi_programs.specs.Puts.{Put, Puts, CasePuts, cases_puts, field_pu
 use Rattle.cm_abi_programs.specs.SlotPuts.{SlotPut, SlotPuts, CaseSlotPuts, both_slots, cases_slots, each_slot, flat_field_puts, flat_payload_puts, flat_puts_of, handle_slot, leaf_slot, list_slot, one_slot, placed_slots, text_slot}
 use Rattle.cm_abi_running.specs.Passing.{PassedOn, all_passed, case_passed, lowered_as, nothing_passed, number_on, number_passed, passed_each, passed_on, passed_then, pointer_passed, text_behind, text_passed}
 use Rattle.cm_abi_running.specs.Putting.{Written, all_written, case_written, list_written, or_no_scalars, scalars_of_text, stored_as, text_written, written, written_bytes, written_each, written_then}
-use Rattle.cm_abi_putting.specs.Copying.{Copying, shown_to}
-use Rattle.cm_abi_putting.specs.PutsReady.{seen_from}
-use Rattle.cm_abi_putting.specs.Shown.{case_at, leaf_shown, or_no_scalars as shown_scalars, scalars_at, values_at, values_each}
+use Rattle.cm_abi_running.specs.Copying.{Copying, shown_to}
+use Rattle.cm_abi_running.specs.PutsReady.{seen_from}
+use Rattle.cm_abi_running.specs.Shown.{case_at, leaf_shown, or_no_scalars as shown_scalars, scalars_at, values_at, values_each}
 use Rattle.cm_abi_copy.specs.FlatShown.{flat_shown, flat_shown_case, flat_shown_fields}
+use Rattle.cm_abi_running.proofs.PutLemmas.{written_none, written_twice, written_same, at_start, not_moved}
+use Rattle.cm_abi_running.proofs.SlotPutLaws.{passed_none, passed_same, first}
 
 -- what the laws of running puts promise
 pub record PutsBelow : Type 0 where
@@ -49,43 +51,11 @@ pub record SlotPutsBelow : Type 0 where
 
 -- ---- one behind the other
 
-written_none : (a : Written) → written_then a (λ k h. written_bytes [] k h) ≡ a
-written_none a = ap (λ bs. written_of bs) (append-nil a.bytes)
-  where
-    written_of : List Placed → Written
-    written_of bs = record { bytes = bs; part = a.part; handle = a.handle }
-
-written_twice : (a : Written) (f g : ℕ → ℕ → Written) → written_then (written_then a f) g ≡ written_then a (λ k h. written_then (f k h) g)
-written_twice a f g = ap (λ bs. written_of bs) (append_assoc a.bytes (f a.part a.handle).bytes (g (f a.part a.handle).part (f a.part a.handle).handle).bytes)
-  where
-    written_of : List Placed → Written
-    written_of bs =
-        record {
-          bytes = bs;
-          part = (g (f a.part a.handle).part (f a.part a.handle).handle).part;
-          handle = (g (f a.part a.handle).part (f a.part a.handle).handle).handle;
-        }
-
-written_same : (a : Written) (f g : ℕ → ℕ → Written) → ((k h : ℕ) → f k h ≡ g k h) → written_then a f ≡ written_then a g
-written_same a f g same = ap (λ r. behind r) (same a.part a.handle)
-  where
-    behind : Written → Written
-    behind r = record { bytes = a.bytes ++ r.bytes; part = r.part; handle = r.handle }
-
 abbrev counted : List Placed → ℕ → ℕ → Written
 counted bs n m = record { bytes = bs; part = n; handle = m }
 
 counted_as : (bs : List Placed) (i j k h : ℕ) → i ≡ k → j ≡ h → counted bs i j ≡ counted bs k h
 counted_as bs i j k h a b = ap (λ n. counted bs n j) a ∙ ap (λ n. counted bs k n) b
-
-at_start : (p : ℕ) → p + 0 ≡ p
-at_start p = omega arith
-
-not_moved : {A : Type 0} (F : ℕ → ℕ → A) (p q : ℕ) → F (p + 0) (q + 0) ≡ F p q
-not_moved F p q = ap (λ a. F a (q + 0)) (at_start p) ∙ ap (λ a. F p a) (at_start q)
-
-first : {A : Type 0} (F : ℕ → A) (s : ℕ) → F (s + 0) ≡ F s
-first F s = ap F (at_start s)
 
 same_scalars : (o : Option (List ℕ)) → or_no_scalars o ≡ shown_scalars o
 same_scalars None = refl
@@ -230,18 +200,6 @@ module _ (laws : PutsBelow) (c : Copying) (small : (i : ℕ) → slice_index c.m
     case_put (carried e x ps) sized i (suc n) p = case_put ps sized.1 i n p
 
 -- ---- over core values
-
-passed_none : (a : PassedOn) → passed_then a (λ k h. nothing_passed k h) ≡ a
-passed_none a = ap (λ ns. whole ns (a.bytes ++ [])) (append-nil a.numbers) ∙ ap (λ bs. whole a.numbers bs) (append-nil a.bytes)
-  where
-    whole : List Placed → List Placed → PassedOn
-    whole ns bs = record { numbers = ns; bytes = bs; part = a.part; handle = a.handle }
-
-passed_same : (a : PassedOn) (f g : ℕ → ℕ → PassedOn) → ((k h : ℕ) → f k h ≡ g k h) → passed_then a f ≡ passed_then a g
-passed_same a f g same = ap (λ r. behind r) (same a.part a.handle)
-  where
-    behind : PassedOn → PassedOn
-    behind r = record { numbers = a.numbers ++ r.numbers; bytes = a.bytes ++ r.bytes; part = r.part; handle = r.handle }
 
 abbrev passed_counted : List Placed → List Placed → ℕ → ℕ → PassedOn
 passed_counted ns bs k h = record { numbers = ns; bytes = bs; part = k; handle = h }

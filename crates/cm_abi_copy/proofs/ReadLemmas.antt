@@ -28,11 +28,11 @@ use Rattle.cm_abi_load.specs.PartLaws.{TextIsShown}
 use Rattle.cm_abi_load.specs.Reading.{Source, after_text, handle_value, leaf_value, read_at, read_case, read_each, read_elements, read_handle, read_parts, read_text, region, text_value}
 use Rattle.cm_abi_store.specs.Fitting.{FitEach, FitFields, Fits, FitsCase}
 use Rattle.cm_abi_copy.proofs.CopyLemmas.{IsOfCase, each_counted}
-use Rattle.cm_abi_putting.specs.Copying.{Copying, shown_to}
-use Rattle.cm_abi_putting.specs.Known.{HasSizes, HaveSizes, source_with}
+use Rattle.cm_abi_running.specs.Copying.{Copying, shown_to}
+use Rattle.cm_abi_running.specs.Known.{HasSizes, HaveSizes, source_with}
 use Rattle.cm_abi_copy.specs.PartLaws.{ElementsAreCopied, TextIsCopied}
-use Rattle.cm_abi_putting.specs.Ready.{AreElementsReady, AreFieldsReady, AreReady, IsCaseReady, IsReady}
-use Rattle.cm_abi_putting.specs.Shown.{all_without_handles, case_at, leaf_shown, or_no_scalars, scalars_at, values_at, values_each, without_handles}
+use Rattle.cm_abi_running.specs.Ready.{AreElementsReady, AreFieldsReady, AreReady, IsCaseReady, IsReady}
+use Rattle.cm_abi_running.specs.Shown.{all_without_handles, case_at, leaf_shown, or_no_scalars, scalars_at, values_at, values_each, without_handles}
 use Rattle.cm_abi_load.proofs.ShownLaws.{bind_ok}
 
 -- ---- counts stay where nothing is told of handles

@@ -17,8 +17,8 @@ use Rattle.cm_abi_model.specs.Requests.{call_parts, is_spilled, stored_charset, 
 use Rattle.cm_abi_model.specs.Views.{View, Way}
 use Rattle.cm_abi_model.specs.declared.record.PartRecord.{PartRecord}
 use Rattle.cm_abi_model.specs.Telling.{TellAll}
-use Rattle.cm_abi_putting.specs.Copying.{size_kept}
-use Rattle.cm_abi_putting.specs.Known.{HasSizes, HaveSizes, first_part}
+use Rattle.cm_abi_running.specs.Copying.{size_kept}
+use Rattle.cm_abi_running.specs.Known.{HasSizes, HaveSizes, first_part}
 
 -- the sizes from the one of this number on are those of parts
 abbrev AreSizes : List ℕ → StringEncoding → ℕ → List Part → Type 0

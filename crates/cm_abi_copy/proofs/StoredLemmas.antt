@@ -7,7 +7,7 @@ use Rattle.cm_abi_model.specs.Parts.{handle_count, part_count}
 use Rattle.cm_abi_model.specs.Stores.{Given, Storing, bytes_of, place_of, placed, pointer_bytes, store_each}
 use Rattle.cm_abi_store.specs.Storing.{number_in, stored_by, stored_by_case, stored_by_fields}
 use Rattle.cm_abi_copy.proofs.ReadLemmas.{handles_stay, parts_stay, same_count}
-use Rattle.cm_abi_putting.specs.Shown.{all_without_handles, without_handles}
+use Rattle.cm_abi_running.specs.Shown.{all_without_handles, without_handles}
 
 pub number_stays : (v : Val) → number_in (without_handles v) ≡ number_in v
 number_stays (truth b) = refl

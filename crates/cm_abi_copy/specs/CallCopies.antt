@@ -11,9 +11,9 @@ use Rattle.cm_abi_model.specs.Ways.{way_of}
 use Rattle.cm_abi_lift.specs.declared.passed.Passed.{Passed}
 use Rattle.cm_abi_store.specs.FlatLowering.{behind_by, slots_by}
 use Rattle.cm_abi_store.specs.Storing.{given_of, stored_by}
-use Rattle.cm_abi_putting.specs.Copying.{copying_of}
-use Rattle.cm_abi_putting.specs.Known.{CanBeCopied}
-use Rattle.cm_abi_putting.specs.declared.copier.Copier.{Copier}
+use Rattle.cm_abi_running.specs.Copying.{copying_of}
+use Rattle.cm_abi_running.specs.Known.{CanBeCopied}
+use Rattle.cm_abi_running.specs.declared.copier.Copier.{Copier}
 use Rattle.cm_abi_copy.specs.FlatReady.{IsFlatReady, IsInSlots}
 use Rattle.cm_abi_copy.specs.FlatShown.{flat_shown}
 

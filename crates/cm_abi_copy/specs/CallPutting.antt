@@ -14,11 +14,11 @@ use Rattle.cm_abi_programs.specs.Puts.{puts_of}
 use Rattle.cm_abi_programs.specs.SlotPuts.{flat_puts_of}
 use Rattle.cm_abi_running.specs.Passing.{all_passed}
 use Rattle.cm_abi_running.specs.Putting.{all_written}
-use Rattle.cm_abi_putting.specs.Copying.{copying_of}
-use Rattle.cm_abi_putting.specs.declared.copier.Copier.{Copier}
-use Rattle.cm_abi_putting.specs.PutsReady.{ArePutsReady, seen_from}
-use Rattle.cm_abi_putting.specs.PutsWithin.{ArePutsWithin}
-use Rattle.cm_abi_putting.specs.SlotPutsReady.{AreSlotsReady, AreSlotsWithin}
+use Rattle.cm_abi_running.specs.Copying.{copying_of}
+use Rattle.cm_abi_running.specs.declared.copier.Copier.{Copier}
+use Rattle.cm_abi_running.specs.PutsReady.{ArePutsReady, seen_from}
+use Rattle.cm_abi_running.specs.PutsWithin.{ArePutsWithin}
+use Rattle.cm_abi_running.specs.SlotPutsReady.{AreSlotsReady, AreSlotsWithin}
 
 -- The tuple of the values can be copied by its puts from where it stands to the place of the first
 -- part: it lies within the source, its place within a memory of so many bytes, and its puts within

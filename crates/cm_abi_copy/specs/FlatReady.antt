@@ -6,8 +6,8 @@ use Rattle.cm_layout.specs.Shapes.{list_shape, fixed_list_shape, fields_shape, c
 use Rattle.cm_layout.specs.Shapes.{handle_shape, no_parts, part, no_payloads, nothing, carried}
 use Rattle.cm_abi_model.specs.Numbers.{wrapped_at}
 use Rattle.cm_abi_model.specs.Parts.{handle_count, part_count}
-use Rattle.cm_abi_putting.specs.Copying.{Copying, shown_to}
-use Rattle.cm_abi_putting.specs.Ready.{AreElementsReady, AreReady, IsReady, IsSound, IsTextReady}
+use Rattle.cm_abi_running.specs.Copying.{Copying, shown_to}
+use Rattle.cm_abi_running.specs.Ready.{AreElementsReady, AreReady, IsReady, IsSound, IsTextReady}
 use Rattle.cm_abi_store.specs.FlatLowering.{IsPassedIn}
 use Rattle.cm_abi_copy.specs.FlatShown.{flat_shown}
 

@@ -10,8 +10,8 @@ use Rattle.cm_layout.specs.Shapes.{list_shape, fixed_list_shape, fields_shape, c
 use Rattle.cm_layout.specs.Shapes.{handle_shape, no_parts, part, no_payloads, nothing, carried}
 use Rattle.cm_abi_model.specs.Numbers.{wrapped_at}
 use Rattle.cm_abi_load.specs.Sized.{core_size}
-use Rattle.cm_abi_putting.specs.Copying.{Copying, shown_to}
-use Rattle.cm_abi_putting.specs.Shown.{leaf_shown, scalars_at, some_handle, values_each}
+use Rattle.cm_abi_running.specs.Copying.{Copying, shown_to}
+use Rattle.cm_abi_running.specs.Shown.{leaf_shown, scalars_at, some_handle, values_each}
 
 abbrev mutual
   -- the value of this shape in the slots from this one on; strings and elements are behind pointers

@@ -7,10 +7,10 @@ use Rattle.cm_layout.specs.Shapes.{Shape, list_shape, string_shape}
 use Rattle.cm_abi_load.specs.Outcomes.{State}
 use Rattle.cm_abi_load.specs.Reading.{read_at, read_elements, read_text}
 use Rattle.cm_abi_store.specs.Fitting.{Fits}
-use Rattle.cm_abi_putting.specs.Copying.{Copying, shown_to}
-use Rattle.cm_abi_putting.specs.Known.{HasSizes, source_with}
-use Rattle.cm_abi_putting.specs.Ready.{AreElementsReady, IsReady, IsTextReady}
-use Rattle.cm_abi_putting.specs.Shown.{scalars_at, values_each, without_handles}
+use Rattle.cm_abi_running.specs.Copying.{Copying, shown_to}
+use Rattle.cm_abi_running.specs.Known.{HasSizes, source_with}
+use Rattle.cm_abi_running.specs.Ready.{AreElementsReady, IsReady, IsTextReady}
+use Rattle.cm_abi_running.specs.Shown.{scalars_at, values_each, without_handles}
 
 -- a string that is read at a pointer is the one that the source shows there, and can be copied
 -- where it fits and its size is known

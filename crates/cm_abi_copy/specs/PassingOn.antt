@@ -13,7 +13,7 @@ use Rattle.cm_abi_lift.specs.declared.passed.Passed.{Passed}
 use Rattle.cm_abi_model.specs.Telling.{TellAll}
 use Rattle.cm_abi_store.specs.Calls.{IsProvided}
 use Rattle.cm_abi_store.specs.Storing.{given_of}
-use Rattle.cm_abi_putting.specs.declared.copier.Copier.{Copier}
+use Rattle.cm_abi_running.specs.declared.copier.Copier.{Copier}
 
 -- Values that core values pass can be passed on, to a receiver with so many bytes of memory and so
 -- many slots: the layout is that of the tuple of their types; in some view of the source, whichever

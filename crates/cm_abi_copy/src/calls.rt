@@ -20,7 +20,7 @@ use crate::slots::Slots;
 use cm_abi_lift::{Passed, number_32};
 use cm_abi_lower::pass_value;
 use cm_abi_programs::CallPuts;
-use cm_abi_putting::{Copier, put_all, put_flat_all};
+use cm_abi_running::{Copier, put_all, put_flat_all};
 use cm_abi_store::Next;
 
 /// Copies the values that core values pass, by the layout of the tuple of their types, from the

@@ -22,7 +22,7 @@ use cm_abi_model::laws::{
 };
 use cm_abi_model::{AbiFault, Encodings, PartRecord, Receiver};
 use cm_abi_programs::CallPuts;
-use cm_abi_putting::Copier;
+use cm_abi_running::Copier;
 use cm_abi_store::laws::{what_is_passed_fits, what_is_passed_stays};
 use cm_abi_store::{Target, put_numbers};
 use cm_handles::Table;

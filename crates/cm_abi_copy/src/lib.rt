@@ -24,7 +24,7 @@ mod settled_laws;
 mod slots;
 
 pub use calls::{copy_call, put_call};
-pub use cm_abi_putting::{Copier, number_stored, size_of_part, write_text_at};
+pub use cm_abi_running::{Copier, number_stored, size_of_part, write_text_at};
 pub use copies::copy_value;
 pub use copying::{copy, copy_by};
 pub use found::Found;

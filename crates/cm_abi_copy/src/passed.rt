@@ -16,10 +16,10 @@ ghost use Rattle.cm_abi_lift.specs.FlatRecords.{passed_records};
 
 use cm_abi_lift::{Passed, Recorder, make_passed};
 use cm_abi_load::{Giver, Progress, Reader, Stop};
-use cm_abi_looking::look_at_passed;
 use cm_abi_model::{PartRecord, StringEncoding};
 use cm_abi_programs::Check;
 use cm_abi_running::laws::running_checks_is_lifting_flat;
+use cm_abi_running::look_at_passed;
 
 /// Scans the tuple of the values that are passed, for strings to be stored in an encoding: by the
 /// checks of what passes it, where there are some, else by its layout.

@@ -2,15 +2,15 @@
 
 ghost use Rattle.std.specs.Prelude.{◌≡◌, ◌+◌, ◌*◌, ◌<◌, ◌≤◌, length, refl, slice_index, ℕ};
 ghost use Rattle.cm_abi_model.specs.Numbers.{number_at as bytes_at};
-ghost use Rattle.cm_abi_putting.specs.Copying.{copying_of, given_for, shown_to};
-ghost use Rattle.cm_abi_putting.specs.Ready.{AreFieldsReady, AreReady, FieldsLieIn, IsReady};
-ghost use Rattle.cm_abi_putting.specs.Ready.{IsSound};
-ghost use Rattle.cm_abi_putting.specs.Ready.{LiesIn};
-ghost use Rattle.cm_abi_putting.specs.Shown.{scalars_at, some_handle, values_at, values_each};
+ghost use Rattle.cm_abi_running.specs.Copying.{copying_of, given_for, shown_to};
+ghost use Rattle.cm_abi_running.specs.Ready.{AreFieldsReady, AreReady, FieldsLieIn, IsReady};
+ghost use Rattle.cm_abi_running.specs.Ready.{IsSound};
+ghost use Rattle.cm_abi_running.specs.Ready.{LiesIn};
+ghost use Rattle.cm_abi_running.specs.Shown.{scalars_at, some_handle, values_at, values_each};
 
 use cm_abi_load::{leaf_size, number_32, number_at};
 use cm_abi_model::StringEncoding;
-use cm_abi_putting::{Copier, number_stored, size_of_part, write_text_at};
+use cm_abi_running::{Copier, number_stored, size_of_part, write_text_at};
 use cm_abi_store::{StoredSource, ValueSource};
 use cm_layout::{Layout, Leaf, Part};
 

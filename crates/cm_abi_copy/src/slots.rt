@@ -1,12 +1,12 @@
-//! Values in the core values that pass them, as a source. What is behind a pointer stands in a
-//! memory.
+//! A source of values that takes them from the core values of a call, and what a pointer among
+//! these leads to from a memory.
 
 ghost use Rattle.std.specs.Prelude.{◌≡◌, ℕ, ◌+◌, ◌*◌, ◌<◌, ◌≤◌, length, refl};
 ghost use Rattle.cm_types.specs.declared.limits.TheConstants.{MAX_FLAT_PARAMS};
 ghost use Rattle.cm_abi_model.specs.Numbers.{wrapped_at as wrapped};
-ghost use Rattle.cm_abi_putting.specs.Copying.{copying_of};
-ghost use Rattle.cm_abi_putting.specs.Ready.{AreReady, IsSound};
-ghost use Rattle.cm_abi_putting.specs.Shown.{scalars_at, some_handle, values_each};
+ghost use Rattle.cm_abi_running.specs.Copying.{copying_of};
+ghost use Rattle.cm_abi_running.specs.Ready.{AreReady, IsSound};
+ghost use Rattle.cm_abi_running.specs.Shown.{scalars_at, some_handle, values_each};
 ghost use Rattle.cm_abi_copy.specs.FlatReady.{AreFieldsInSlots, AreFlatFieldsReady, IsFlatReady};
 ghost use Rattle.cm_abi_copy.specs.FlatReady.{IsInSlots};
 ghost use Rattle.cm_abi_copy.specs.FlatShown.{flat_shown, flat_shown_fields};
@@ -18,7 +18,7 @@ use crate::place::Place;
 use cm_abi_lift::{number_32, wrapped_at};
 use cm_abi_load::core_size;
 use cm_abi_model::StringEncoding;
-use cm_abi_putting::{Copier, number_stored, size_of_part, write_text_at};
+use cm_abi_running::{Copier, number_stored, size_of_part, write_text_at};
 use cm_abi_store::{PassedSource, ValueSource};
 use cm_layout::{Layout, Leaf, Part};
 use cm_types::CoreValue;

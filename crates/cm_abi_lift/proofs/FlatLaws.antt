@@ -30,6 +30,8 @@ use Rattle.cm_abi_load.proofs.ShownLaws.{bind_ok, mapped_ok, moved, read_ok}
 use Rattle.cm_abi_model.proofs.TakenLemmas.{content_both}
 use Rattle.cm_types.proofs.CoreValueLaws.{drop_twice}
 use Rattle.cm_types.proofs.TypedValueLaws.{scalar_sound, scalar_complete}
+use Rattle.cm_abi_load.proofs.FoundLaws.{char_found}
+use Rattle.cm_abi_load.proofs.ShownLaws.{char_is}
 
 -- what the laws of lifting from memory promise
 pub record Laws : Type 0 where
@@ -62,14 +64,6 @@ two_slots F s k = ap (λ n. F n (wrapped_at 4 (drop k s) 1)) (at_first 4 s k) �
 -- ---- lists of what is met
 
 -- ---- chars
-
-char_is : (P : Val → State → Type 0) (b : Bool) (c : ℕ) (s t : State) (v : Val) → (if b then read_ok (scalar c) s else read_err fault.BadChar s) ≡ read_ok v t
-    → (b ≡ true → P (scalar c) s) → P v t
-char_is P true c s t v e h = moved P (scalar c) v s t e (h refl)
-char_is P false c s t v e h = absurd (cc)
-
-char_found : (c : ℕ) (s : State) → IsScalarValue c → (if is_scalar_value c then read_ok (scalar c) s else read_err fault.BadChar s) ≡ read_ok (scalar c) s
-char_found c s is = rw (scalar_complete c is) refl
 
 -- ---- values in a row
 

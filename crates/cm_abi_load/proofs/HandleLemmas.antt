@@ -37,13 +37,13 @@ pub keeps_then : {A B : Type 0} (s : State) (r : Outcome A) (f : A × State → 
 keeps_then s (Ok x) f h more = keeps_from s x.1 (f x) h (more x)
 keeps_then s (Err e) f h more = tt
 
-by_test : {A : Type 0} (b : Bool) (s : State) (x y : Outcome A) → KeepsHandles s x → KeepsHandles s y → KeepsHandles s (if b then x else y)
+pub by_test : {A : Type 0} (b : Bool) (s : State) (x y : Outcome A) → KeepsHandles s x → KeepsHandles s y → KeepsHandles s (if b then x else y)
 by_test true s x y h k = h
 by_test false s x y h k = k
 
 -- ---- what reads
 
-keeps_region : (memory : List ℕ) (align at size : ℕ) (s : State) → KeepsHandles s (region memory align at size s)
+pub keeps_region : (memory : List ℕ) (align at size : ℕ) (s : State) → KeepsHandles s (region memory align at size s)
 unfolding region
 keeps_region memory align at size s =
     by_test (not (at % align == 0)) s _ _ tt

@@ -103,7 +103,7 @@ elements_shown R S T M one memory h at n s t vs e =
 
 -- ---- chars
 
-char_is : (P : Val → State → Type 0) (b : Bool) (c : ℕ) (s t : State) (v : Val) → (if b then read_ok (scalar c) s else read_err fault.BadChar s) ≡ read_ok v t
+pub char_is : (P : Val → State → Type 0) (b : Bool) (c : ℕ) (s t : State) (v : Val) → (if b then read_ok (scalar c) s else read_err fault.BadChar s) ≡ read_ok v t
     → (b ≡ true → P (scalar c) s) → P v t
 char_is P true c s t v e h = moved P (scalar c) v s t e (h refl)
 char_is P false c s t v e h = absurd (cc)

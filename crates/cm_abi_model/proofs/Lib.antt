@@ -1,4 +1,5 @@
 pub mod InTurn
+pub mod ShownForms
 pub mod OneValue
 pub mod StoredBytes
 pub mod SizesAskedFor

@@ -5,3 +5,7 @@ pub mod Coded
 pub mod CodedPuts
 pub mod CodedSlots
 pub mod CallPuts
+pub mod Held
+pub mod PlacedFields
+pub mod PutSteps
+pub mod Placed

@@ -2,6 +2,17 @@ pub mod LookedLemmas
 mod CheckLemmas
 mod CheckLaws
 pub mod FlatCheckLaws
-mod PutLemmas
+pub mod PutLemmas
 mod PutLaws
-mod SlotPutLaws
+pub mod SlotPutLaws
+mod LookingLemmas
+mod RoomLemmas
+mod LookLemmas
+mod TextRowLemmas
+mod AsciiLemmas
+mod WithinLemmas
+mod FlatLookingLemmas
+mod PassedLemmas
+pub mod LeafLemmas
+pub mod PuttingLemmas
+pub mod PuttingFlatLemmas

@@ -37,7 +37,7 @@ use Rattle.cm_abi_running.proofs.PutLaws.{came, each_counted, each_put_is, found
 
 -- ---- one behind the other
 
-passed_none : (a : PassedOn) → passed_then a (λ k h. nothing_passed k h) ≡ a
+pub passed_none : (a : PassedOn) → passed_then a (λ k h. nothing_passed k h) ≡ a
 passed_none a = ap (λ ns. whole ns (a.bytes ++ [])) (append-nil a.numbers) ∙ ap (λ bs. whole a.numbers bs) (append-nil a.bytes)
   where
     whole : List Placed → List Placed → PassedOn
@@ -63,7 +63,7 @@ passed_twice a f g =
           handle = (g (f a.part a.handle).part (f a.part a.handle).handle).handle;
         }
 
-passed_same : (a : PassedOn) (f g : ℕ → ℕ → PassedOn) → ((k h : ℕ) → f k h ≡ g k h) → passed_then a f ≡ passed_then a g
+pub passed_same : (a : PassedOn) (f g : ℕ → ℕ → PassedOn) → ((k h : ℕ) → f k h ≡ g k h) → passed_then a f ≡ passed_then a g
 passed_same a f g same = ap (λ r. behind r) (same a.part a.handle)
   where
     behind : PassedOn → PassedOn
@@ -78,7 +78,7 @@ counted_as ns bs i j k h p q = ap (λ x. counted ns bs x j) p ∙ ap (λ x. coun
 further : {A : Type 0} (F : ℕ → A) (s o at : ℕ) → F (s + (o + at)) ≡ F (s + o + at)
 further F s o at = ap F {x = s + (o + at)} {y = s + o + at} (omega arith)
 
-first : {A : Type 0} (F : ℕ → A) (s : ℕ) → F (s + 0) ≡ F s
+pub first : {A : Type 0} (F : ℕ → A) (s : ℕ) → F (s + 0) ≡ F s
 first F s = ap F {x = s + 0} {y = s} (omega arith)
 
 module _ (w : Source) (g : Given) (slots : List CoreValue) where

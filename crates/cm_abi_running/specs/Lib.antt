@@ -1,3 +1,14 @@
 pub mod Checking
 pub mod Putting
 pub mod Passing
+pub mod Looks
+pub mod Within
+pub mod Shown
+pub mod Copying
+pub mod Ready
+pub mod Known
+pub mod PutsWithin
+pub mod PutsReady
+pub mod PutsWritten
+pub mod SlotPutsReady
+pub mod SlotsPassed

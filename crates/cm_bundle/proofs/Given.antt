@@ -12,9 +12,9 @@ use Rattle.cm_match_model.specs.declared.plan.PlanLine.{PlanLine}
 use Rattle.cm_match_model.specs.Imports.{ImportAt, all_imports_from, import_in, imports_from, link_of, links_of}
 use Rattle.cm_match_model.specs.Links.{lines_of, plan_line}
 use Rattle.cm_match_model.specs.Origins.{LeadEarlier}
-use Rattle.cm_bundle_form.specs.Trees.{SupplyTree}
+use Rattle.cm_bundle.specs.Trees.{SupplyTree}
 use Rattle.cm_bundle.specs.Bundled.{argument_of, arguments_of, export_at, import_sort, supplied}
-use Rattle.cm_bundle.proofs.Lines.{imports_here}
+use Rattle.cm_match.proofs.Walking.{imports_here}
 
 -- ---- the argument of a line
 

@@ -8,12 +8,12 @@ use Rattle.std.specs.Prelude.{IfOk, Result}
 use Rattle.cm_lemmas.proofs.Lists.{map_length, mapped_twice}
 use Rattle.cm_validate_model.specs.Spaces.{Spaces}
 use Rattle.cm_match_model.specs.Links.{CanBeLinked}
-use Rattle.cm_bundle_form.specs.Answers.{Accepts}
-use Rattle.cm_bundle_form.specs.declared.bundle.Bundle.{Bundle}
-use Rattle.cm_bundle_form.specs.declared.bundle.Part.{Part}
-use Rattle.cm_bundle_form.specs.declared.bundle.TheConstants.{MAX_PARTS}
-use Rattle.cm_bundle_form.specs.declared.fault.BundleFault.{BundleFault}
-use Rattle.cm_bundle_form.specs.Trees.{BundleTree, PartTree, part_tree}
+use Rattle.cm_bundle.specs.Answers.{Accepts}
+use Rattle.cm_bundle.specs.declared.form.Bundle.{Bundle}
+use Rattle.cm_bundle.specs.declared.form.Part.{Part}
+use Rattle.cm_bundle.specs.declared.form.TheConstants.{MAX_PARTS}
+use Rattle.cm_bundle.specs.declared.fault.BundleFault.{BundleFault}
+use Rattle.cm_bundle.specs.Trees.{BundleTree, PartTree, part_tree}
 use Rattle.cm_bundle.specs.Bundled.{bundle_of, part_of}
 use Rattle.cm_bundle.proofs.ServedLaws.{files_kept}
 

@@ -2,6 +2,21 @@ mod Lines
 mod Given
 mod ServedLaws
 mod Supplying
-mod Read
-mod Loops
+mod SetRead
+mod MakingLoops
 mod Kept
+pub mod TextLaws
+pub mod MeasuredLaws
+pub mod LawfulBundle
+pub mod Shortest
+pub mod Places
+pub mod EitherCode
+pub mod SpellingIs
+pub mod BundleIs
+pub mod WrittenBundle
+pub mod ReadingLoops
+pub mod Items
+pub mod Counting
+pub mod Earlier
+pub mod Refusing
+pub mod ReadLaws

@@ -14,6 +14,7 @@ use Rattle.cm_match_model.specs.declared.plan.PlanLine.{PlanLine}
 use Rattle.cm_match_model.specs.Imports.{ImportAt, all_imports_from, imports_from, imports_of, link_of}
 use Rattle.cm_match_model.specs.Links.{CanBeLinked, IsServed, lines_of, plan_line}
 use Rattle.cm_match.specs.Before.{imports_at}
+use Rattle.cm_match.proofs.Walking.{imports_length, imports_here}
 
 -- ---- lists
 
@@ -36,13 +37,6 @@ module _ {A : Type 0} where
   drop_front (suc k) (x ∷ xs) ys e = drop_front k xs ys (omega (arith, e))
 
 -- ---- imports of a component
-
-imports_length : (c n : ℕ) (xs : List NamedExtern) → length (imports_from c n xs) ≡ length xs
-imports_length c n [] = refl
-imports_length c n (x ∷ xs) = ap suc (imports_length c (n + 1) xs)
-
-pub imports_here : (set : List Spaces) (c : ℕ) (s : Spaces) → slice_get set c ≡ Some s → imports_at set c ≡ imports_from c 0 s.imports
-imports_here set c s e = rw e refl
 
 -- what holds of all imports holds of those of a component
 pub all_here : (P : ImportAt → Type 0) (c : ℕ) (ss : List Spaces) (n : ℕ) (s : Spaces) → AllByRecursion P (all_imports_from c ss) → slice_get ss n ≡ Some s → AllByRecursion P (imports_from (c + n) 0 s.imports)

@@ -11,11 +11,12 @@ use Rattle.cm_match_model.specs.Imports.{ImportAt, export_in, imports_from, impo
 use Rattle.cm_match_model.specs.Links.{CanBeLinked, IsServed, lines_of, plan_line}
 use Rattle.cm_match_model.specs.Origins.{LeadEarlier}
 use Rattle.cm_match_model.specs.Serving.{ServesExtern}
-use Rattle.cm_bundle_form.specs.Trees.{SupplyTree}
+use Rattle.cm_bundle.specs.Trees.{SupplyTree}
 use Rattle.cm_bundle.specs.Bundled.{argument_of, arguments_of, bundle_of, export_at, export_sort, import_sort, part_of}
 use Rattle.cm_bundle.specs.Serving.{IsGiven}
 use Rattle.cm_bundle.proofs.Given.{IsHere, IsHereIn, all_are_here, all_here_in, given, supply_named}
-use Rattle.cm_bundle.proofs.Lines.{all_here, imports_here}
+use Rattle.cm_bundle.proofs.Lines.{all_here}
+use Rattle.cm_match.proofs.Walking.{imports_here}
 
 -- ---- files
 

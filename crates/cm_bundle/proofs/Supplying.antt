@@ -6,8 +6,8 @@ use Rattle.cm_validate_model.specs.Definitions.{NamedExport}
 use Rattle.cm_validate_model.specs.Spaces.{Spaces}
 use Rattle.cm_match_model.specs.Imports.{links_of}
 use Rattle.cm_match_model.specs.Origins.{LeadEarlier}
-use Rattle.cm_bundle_form.specs.Spelled.{AreSupplied, IsSupply}
-use Rattle.cm_bundle_form.specs.Trees.{PartTree, SupplyTree}
+use Rattle.cm_bundle.specs.Spelled.{AreSupplied, IsSupply}
+use Rattle.cm_bundle.specs.Trees.{PartTree, SupplyTree}
 use Rattle.cm_bundle.specs.Bundled.{exported, exports_of, part_of}
 use Rattle.cm_bundle.specs.Texts.{HasTexts}
 use Rattle.cm_bundle.proofs.Given.{IsBefore, arguments_before}

@@ -12,9 +12,9 @@ use Rattle.cm_match_model.specs.declared.plan.PlanLine.{PlanLine}
 use Rattle.cm_match_model.specs.Imports.{import_in}
 use Rattle.cm_match_model.specs.Links.{lines_of}
 use Rattle.cm_match.specs.Before.{imports_at}
-use Rattle.cm_bundle_form.specs.declared.bundle.Sort.{Sort}
-use Rattle.cm_bundle_form.specs.declared.bundle.Sort.TheVariants as sorts
-use Rattle.cm_bundle_form.specs.Trees.{SupplyTree, PartTree, BundleTree}
+use Rattle.cm_bundle.specs.declared.form.Sort.{Sort}
+use Rattle.cm_bundle.specs.declared.form.Sort.TheVariants as sorts
+use Rattle.cm_bundle.specs.Trees.{SupplyTree, PartTree, BundleTree}
 
 -- ---- sorts (Binary.md, `sort`)
 

@@ -1,4 +1,11 @@
 pub mod Bundled
-pub mod Refusals
+pub mod BundlingRefusals
 pub mod Serving
 pub mod Texts
+pub mod Trees
+pub mod Spelled
+pub mod Grammar
+pub mod Room
+pub mod Answers
+pub mod Reasons
+pub mod Refusals

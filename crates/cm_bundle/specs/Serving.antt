@@ -6,7 +6,7 @@ use Rattle.cm_match_model.specs.declared.component.Link.{Link}
 use Rattle.cm_match_model.specs.Imports.{ImportAt, link_of}
 use Rattle.cm_match_model.specs.Links.{plan_line}
 use Rattle.cm_match_model.specs.Serving.{ServesExtern}
-use Rattle.cm_bundle_form.specs.Trees.{SupplyTree}
+use Rattle.cm_bundle.specs.Trees.{SupplyTree}
 use Rattle.cm_bundle.specs.Bundled.{argument_of, export_at, export_sort, import_sort}
 
 -- An import is given this, and it serves the import: it has the import's name, and is an export of

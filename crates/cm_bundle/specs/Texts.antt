@@ -1,7 +1,7 @@
 -- Names that are texts.
 use Rattle.std.specs.Prelude.{◌≡◌, true}
 use Rattle.std.specs.Str.{is_utf8}
-use Rattle.cm_bundle_form.specs.Trees.{SupplyTree}
+use Rattle.cm_bundle.specs.Trees.{SupplyTree}
 
 -- both names are texts
 abbrev pub HasTexts : SupplyTree → Type 0

@@ -3,18 +3,21 @@
 ghost use Rattle.std.specs.Prelude.{◌≡◌, ◌⊎◌, List, ℕ, length, map, IfOk, IfErr};
 ghost use Rattle.cm_validate_model.specs.Spaces.{Spaces};
 ghost use Rattle.cm_match.specs.Linked.{set_in};
-ghost use Rattle.cm_bundle_form.specs.Answers.{Accepts, Refuses};
-ghost use Rattle.cm_bundle_form.specs.Grammar.{FirstFault};
-ghost use Rattle.cm_bundle_form.specs.Spelled.{IsBundle, spelled};
-ghost use Rattle.cm_bundle_form.specs.Trees.{bundle_tree};
-ghost use Rattle.cm_bundle_form.specs.declared.fault.BundleReason.{BundleReason};
-ghost use Rattle.cm_bundle_form.specs.declared.fault.BundleReason.TheVariants as reasons;
+ghost use Rattle.cm_bundle.specs.Answers.{Accepts, Refuses};
+ghost use Rattle.cm_bundle.specs.Grammar.{FirstFault};
+ghost use Rattle.cm_bundle.specs.Spelled.{IsBundle, spelled};
+ghost use Rattle.cm_bundle.specs.Trees.{bundle_tree};
+ghost use Rattle.cm_bundle.specs.declared.fault.BundleReason.{BundleReason};
+ghost use Rattle.cm_bundle.specs.declared.fault.BundleReason.TheVariants as reasons;
 ghost use Rattle.cm_bundle.specs.Bundled.{bundle_of};
-ghost use Rattle.cm_bundle.specs.Refusals.{AreComplete, IsRefused, IsWritten};
+ghost use Rattle.cm_bundle.specs.BundlingRefusals.{AreComplete, IsRefused, IsWritten};
 ghost use Rattle.cm_bundle.specs.declared.bundling.BundlingFault.TheVariants as faults;
 
-use crate::parts::bundle_of;
-use cm_bundle_form::{Bundle, BundleFault, WriteFault, read, write};
+use crate::bundled::bundle_of;
+use crate::fault::BundleFault;
+use crate::form::Bundle;
+use crate::reading::read;
+use crate::writing::{WriteFault, write};
 use cm_match::Linked;
 use std::alloc::{AllocError, AllocFailed, Global};
 use thiserror::Error;
@@ -99,7 +102,7 @@ fn write_set(
 }
 
 /// Reads a bundle: the files of its set, none copied, what each is given, and what is exported.
-/// [`BundleReason`](cm_bundle_form::BundleReason) says at which byte each fault is.
+/// [`BundleReason`](crate::fault::BundleReason) says at which byte each fault is.
 pub fn unbundle(alloc: Global, bytes: &[u8]) -> Result<Bundle<'_>, BundleFault>
     // What is read is a bundle, and these bytes are its spelling.
     ensures bundle { IfOk result (λ b. IsBundle (bundle_tree b)) }

@@ -3,7 +3,7 @@
 
 ghost use Rattle.std.specs.Prelude.{◌≡◌, ℕ, List, Some, map, slice_get};
 ghost use Rattle.std.specs.List.{AllByRecursion};
-ghost use Rattle.cm_bundle_form.specs.Trees.{SupplyTree};
+ghost use Rattle.cm_bundle.specs.Trees.{SupplyTree};
 ghost use Rattle.cm_match_model.specs.Imports.{imports_of};
 ghost use Rattle.cm_match_model.specs.Links.{CanBeLinked};
 ghost use Rattle.cm_validate_model.specs.Spaces.{Spaces};

@@ -1,12 +1,28 @@
-//! The bundle of a linked set: one file that other runtimes read.
+//! The bundle of a linked set: one file that other runtimes read (Binary.md).
+//!
+//! A bundle has an instance of each component, which is given what others export. It has one
+//! spelling: [`write`] gives it, and [`read`] reads that and no other.
 #![tactic(auto)]
 
+mod aliases;
+mod bundled;
 mod bundling;
+mod checking;
+mod codes;
+mod fault;
+mod form;
 pub mod laws;
+mod numbers;
 mod parts;
+mod reading;
+mod sections;
+mod set_supplies;
+mod spaces;
 mod supplies;
+mod writing;
 
 pub use bundling::{BundlingFault, bundle, unbundle};
-pub use cm_bundle_form::{
-    BUNDLE_PREAMBLE, Bundle, BundleFault, BundleReason, MAX_PARTS, Part, PartExport, Sort, Supply,
-};
+pub use fault::{BundleFault, BundleReason};
+pub use form::{BUNDLE_PREAMBLE, Bundle, MAX_PARTS, Part, PartExport, Sort, Supply};
+pub use reading::read;
+pub use writing::{WriteFault, write};

@@ -1,60 +1,93 @@
-//! Linked sets as bundles, before they are written.
+//! Parts, and the exports behind them.
 
-ghost use Rattle.std.specs.Prelude.{◌≡◌, length, map, IfOk};
-ghost use Rattle.std.specs.List.{AllByRecursion, enumerate_from};
-ghost use Rattle.cm_match.specs.Linked.{set_in};
-ghost use Rattle.cm_bundle_form.specs.Spelled.{AreSupplied};
-ghost use Rattle.cm_bundle_form.specs.Trees.{bundle_tree, part_tree};
-ghost use Rattle.cm_bundle.specs.Bundled.{bundle_of, part_of};
-ghost use Rattle.cm_bundle.specs.Refusals.{AreComplete};
-ghost use Rattle.cm_bundle.specs.Texts.{HasTexts};
+ghost use Rattle.std.specs.Prelude.{◌≡◌, ◌+◌, ◌≤◌, ◌<◌, ◌*◌, ◌^◌, length, map, IfOk};
+ghost use Rattle.cm_binary_grammar.specs.Reading.{Reads};
+ghost use Rattle.cm_bundle.specs.Grammar.{part, exports, body};
+ghost use Rattle.cm_bundle.specs.Room.{ReadsPart};
+ghost use Rattle.cm_bundle.specs.Spelled.{Spaces, no_spaces};
+ghost use Rattle.cm_bundle.specs.Trees.{bundle_tree, supply_tree};
 
-use crate::supplies::{arguments_of, exports_of};
-use cm_bundle_form::{Bundle, Part};
-use cm_match::Linked;
-use cm_match_model::laws::links_lead_earlier;
-use std::alloc::{AllocError, Global};
+use crate::aliases::read_aliases;
+use crate::codes::Next;
+use crate::fault::BundleReason;
+use crate::form::{Bundle, MAX_PARTS, Part, Sort, Supply};
+use crate::numbers::read_bytes;
+use crate::spaces::Counts;
+use crate::supplies::{read_export_section, read_instances};
+use cm_binary_grammar::{Cursor, ReadError};
+use std::alloc::Global;
 
-/// The bundle of a linked set, before it is written.
-pub fn bundle_of<'a>(
+/// Reads a part behind the id of its first section, and counts what it adds to the index spaces.
+#[tactic(auto, unfolding(crate::specs::Grammar::part))]
+fn read_part<'a>(
     alloc: Global,
-    linked: &'a Linked<'_>,
-    files: &[&'a [u8]],
-    exporter: usize,
-) -> Result<Bundle<'a>, AllocError>
-    requires { AreComplete (set_in linked.now) (map (λ f. f.now) files.now) exporter }
-    ensures bundle { IfOk result (λ b. bundle_tree b
-        ≡ bundle_of (set_in linked.now) (map (λ f. f.now) files.now) exporter) }
-    ensures supplied { IfOk result (λ b.
-        AreSupplied 0 (bundle_tree b).parts (bundle_tree b).exports) }
+    bytes: &mut Cursor<'a, BundleReason>,
+    counts: Counts,
+    places: &[u64],
+) -> Result<(Part<'a>, Counts), ReadError<BundleReason>>
+    requires functions { counts.functions < 2 ^ 62 }
+    requires instances { counts.instances < 2 ^ 62 }
+    ensures read { ReadsPart counts places.now bytes.old bytes.new result }
+    ensures end { bytes.new.end ≡ bytes.old.end }
+    ensures functions { IfOk result (λ x. x.1.functions < counts.functions + 2 ^ 32) }
+    ensures instances { IfOk result (λ x. x.1.instances < counts.instances + 2 ^ 32) }
 {
-    links_lead_earlier();
-    let parts = parts_of(alloc, linked, files)?;
-    let exports = exports_of(alloc, linked, exporter)?;
-    Ok(Bundle { parts, exports })
+    let file = read_bytes(bytes)?;
+    bytes.byte(0x06, BundleReason::UnknownCode)?;
+    let aliased = read_aliases(alloc, bytes, places)?;
+    bytes.byte(0x05, BundleReason::UnknownCode)?;
+    let arguments = read_instances(alloc, bytes, places.len(), counts, &aliased)?;
+    let counts = counts.all_counted(&arguments);
+    Ok((Part { file, arguments }, counts))
 }
 
-/// Each component with its file, and what its imports are given. The plan has a line for each
-/// import, in order, so that each component takes its own from the front.
-fn parts_of<'a>(
+/// Reads the exports behind the id of their first section.
+#[tactic(auto, unfolding(crate::specs::Grammar::exports))]
+fn read_exports<'a>(
     alloc: Global,
-    linked: &'a Linked<'_>,
-    files: &[&'a [u8]],
-) -> Result<Vec<Part<'a>>, AllocError>
-    requires { length files.now ≡ length (set_in linked.now) }
-    ensures parts { IfOk result (λ v. map part_tree v.items ≡ map (part_of (set_in linked.now))
-        (enumerate_from 0 (map (λ f. f.now) files.now))) }
-    ensures texts { IfOk result (λ v.
-        AllByRecursion (λ p. AllByRecursion HasTexts p.arguments) (map part_tree v.items)) }
+    bytes: &mut Cursor<'a, BundleReason>,
+    counts: Counts,
+    places: &[u64],
+) -> Result<Vec<Supply<'a>>, ReadError<BundleReason>>
+    requires functions { counts.functions < 2 ^ 62 }
+    requires instances { counts.instances < 2 ^ 62 }
+    ensures read { let s : Spaces = record { counts = counts; places = places.now } in
+        Reads (exports s) (λ v. map supply_tree v.items) bytes.old bytes.new result }
+    ensures end { bytes.new.end ≡ bytes.old.end }
 {
-    let components = linked.components();
-    let mut lines = linked.plan();
+    let aliased = read_aliases(alloc, bytes, places)?;
+    bytes.byte(0x0b, BundleReason::UnknownCode)?;
+    read_export_section(alloc, bytes, counts, &aliased)
+}
+
+/// Reads parts, and the exports behind them.
+pub fn read_body<'a>(
+    alloc: Global,
+    bytes: &mut Cursor<'a, BundleReason>,
+) -> Result<Bundle<'a>, ReadError<BundleReason>>
+    ensures read { Reads (body (MAX_PARTS + 1) no_spaces) bundle_tree bytes.old bytes.new result }
+    ensures end { bytes.new.end ≡ bytes.old.end }
+{
+    let mut counts = Counts {
+        functions: 0,
+        instances: 0,
+    };
+    let mut places = Vec::new(alloc);
     let mut parts = Vec::new(alloc);
-    for (component, file) in files.iter().enumerate() {
-        let (own, others) = lines.split_at(components[component].imports().len());
-        let arguments = arguments_of(alloc, linked, own)?;
-        parts.push(Part { file, arguments })?;
-        lines = others;
+    for _ in 0..MAX_PARTS + 1 {
+        let next: Next = bytes.code()?;
+        match next {
+            Next::Exports => {
+                let exports = read_exports(alloc, bytes, counts, &places)?;
+                return Ok(Bundle { parts, exports });
+            }
+            Next::Part => {
+                let (part, aliased) = read_part(alloc, bytes, counts, &places)?;
+                parts.push(part)?;
+                places.push(aliased.instances)?;
+                counts = aliased.counted(Sort::Instance);
+            }
+        }
     }
-    Ok(parts)
+    Err(bytes.fault(BundleReason::TooManyParts))
 }

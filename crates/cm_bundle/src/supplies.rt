@@ -1,141 +1,156 @@
-//! What components of a set are given, and what they export, as a bundle names it.
+//! What is passed on, by the indices of its aliases.
 
-ghost use Rattle.std.specs.Prelude.{◌≡◌, List, map, true, IfOk, IfSome};
-ghost use Rattle.std.specs.List.{AllByRecursion, filter_map};
-ghost use Rattle.std.specs.Option.{option_map};
-ghost use Rattle.std.specs.Str.{is_utf8};
-ghost use Rattle.cm_types.specs.Types.{FuncTy, Ty};
-ghost use Rattle.cm_types_arena.specs.Externs.{extern_desc_of, extern_of};
-ghost use Rattle.cm_validate_entries.specs.ComponentSpaces.{export_def, exported_def};
-ghost use Rattle.cm_match_model.specs.Imports.{import_in};
-ghost use Rattle.cm_match_serving.specs.Sets.{funcs_at, types_at};
-ghost use Rattle.cm_match.specs.Linked.{components_in, set_in};
-ghost use Rattle.cm_bundle_form.specs.Trees.{supply_tree};
-ghost use Rattle.cm_bundle.specs.Bundled.{argument_of, export_at, export_sort, exported};
-ghost use Rattle.cm_bundle.specs.Bundled.{exports_of, import_sort};
-ghost use Rattle.cm_bundle.specs.Texts.{HasTexts};
+ghost use Rattle.std.specs.Prelude.{◌≡◌, [], ◌∷◌, length, map, IfOk};
+ghost use Rattle.cm_binary_grammar.specs.Reading.{Reads};
+ghost use Rattle.cm_bundle.specs.Grammar.{supply, supplies, instance_of, exports_of_all};
+ghost use Rattle.cm_bundle.specs.Grammar.{sized};
+ghost use Rattle.cm_bundle.specs.Room.{HasRoom};
+ghost use Rattle.cm_bundle.specs.Spelled.{sort_code};
+ghost use Rattle.cm_bundle.specs.Trees.{export_tree, supply_tree};
 
-use cm_bundle_form::{PartExport, Sort, Supply};
-use cm_match::{ExportEntry, Linked, PlanLine};
-use cm_types_arena::{Extern, ExternDesc};
-use cm_validate_entries::ExportedEntry;
-use std::alloc::{AllocError, Global};
+use crate::fault::BundleReason;
+use crate::form::{PartExport, Sort, Supply};
+use crate::numbers::{read_short, read_text, read_this};
+use crate::spaces::Counts;
+use cm_binary_grammar::{Cursor, ReadError};
+use std::alloc::Global;
 
-fn import_sort(desc: &ExternDesc) -> Sort
-    ensures { (types : List Ty) (funcs : List FuncTy)
-        → result ≡ import_sort (extern_desc_of types funcs desc.now) }
+/// The byte of what is passed on (Binary.md, `sort`).
+pub fn sort_code(sort: Sort) -> u8
+    ensures { result ≡ sort_code sort }
 {
-    match desc {
-        ExternDesc::Func(_) => Sort::Func,
-        ExternDesc::Instance { .. } => Sort::Instance,
+    match sort {
+        Sort::Func => 0x01,
+        Sort::Instance => 0x05,
     }
 }
 
-fn export_sort(def: &ExportedEntry<'_>) -> Sort
-    ensures { (types : List Ty) (funcs : List FuncTy)
-        → result ≡ export_sort (exported_def types funcs def.now) }
+/// Reads how an alias is passed on, between the bytes that stand around it.
+#[tactic(auto, unfolding(crate::specs::Grammar::supply))]
+fn read_supply<'a>(
+    bytes: &mut Cursor<'a, BundleReason>,
+    lead: &[u8],
+    tail: &[u8],
+    counts: Counts,
+    export: PartExport<'a>,
+) -> Result<Supply<'a>, ReadError<BundleReason>>
+    ensures read { Reads (supply lead.now tail.now counts (export_tree export.entry))
+        supply_tree bytes.old bytes.new result }
+    ensures end { bytes.new.end ≡ bytes.old.end }
 {
-    match def {
-        ExportedEntry::Func(_) => Sort::Func,
-        ExportedEntry::Instance(_) => Sort::Instance,
-    }
+    bytes.fixed(lead, BundleReason::UnknownCode)?;
+    let name = read_text(bytes)?;
+    bytes.byte(sort_code(export.sort), BundleReason::UnknownCode)?;
+    read_this(bytes, counts.next_index(export.sort))?;
+    bytes.fixed(tail, BundleReason::UnknownCode)?;
+    Ok(Supply { name, export })
 }
 
-/// The import of a number of a component.
-fn import_at<'a>(linked: &'a Linked<'_>, component: usize, import: usize) -> Option<&'a Extern>
-    ensures { option_map (λ i. extern_of (types_at (components_in linked.now) component)
-        (funcs_at (components_in linked.now) component) i.now) result
-        ≡ import_in (set_in linked.now) component import }
-{
-    linked.components().get(component)?.imports().get(import)
-}
-
-/// The name of the export of a number of a component.
-fn export_name<'a>(linked: &'a Linked<'_>, component: usize, export: usize) -> Option<&'a str>
-    ensures name { option_map (λ n. n.now) result
-        ≡ option_map (λ e. e.name) (export_at (set_in linked.now) component export) }
-    ensures text { IfSome result (λ n. is_utf8 n.now ≡ true) }
-{
-    let components = linked.components();
-    Some(
-        components
-            .get(component)?
-            .exports()
-            .get(export)?
-            .name
-            .as_str(),
-    )
-}
-
-/// What the import of a line is given.
-fn argument_of<'a>(linked: &'a Linked<'_>, line: &PlanLine) -> Option<Supply<'a>>
-    ensures argument { option_map supply_tree result ≡ argument_of (set_in linked.now) line.now }
-    ensures texts { IfSome result (λ x. HasTexts (supply_tree x)) }
-{
-    let import = import_at(linked, line.importer, line.import)?;
-    let name = export_name(linked, line.provider, line.export)?;
-    Some(Supply {
-        name: import.name.as_str(),
-        export: PartExport {
-            part: line.provider,
-            sort: import_sort(&import.desc),
-            name,
-        },
-    })
-}
-
-/// What the imports of some lines are given, in order.
-pub fn arguments_of<'a>(
+/// Reads how each of these aliases is passed on.
+fn read_supplies<'a>(
     alloc: Global,
-    linked: &'a Linked<'_>,
-    lines: &[PlanLine],
-) -> Result<Vec<Supply<'a>>, AllocError>
-    ensures arguments { IfOk result (λ v. map supply_tree v.items
-        ≡ filter_map (argument_of (set_in linked.now)) lines.now) }
-    ensures texts { IfOk result (λ v. AllByRecursion HasTexts (map supply_tree v.items)) }
+    bytes: &mut Cursor<'a, BundleReason>,
+    lead: &[u8],
+    tail: &[u8],
+    counts: Counts,
+    exports: &[PartExport<'a>],
+) -> Result<Vec<Supply<'a>>, ReadError<BundleReason>>
+    requires { HasRoom counts (length exports.now) }
+    ensures read { Reads (supplies lead.now tail.now counts (map export_tree exports.now))
+        (λ v. map supply_tree v.items) bytes.old bytes.new result }
+    ensures end { bytes.new.end ≡ bytes.old.end }
+    ensures count { IfOk result (λ v. length v.items ≡ length exports.now) }
 {
-    let mut arguments = Vec::new(alloc);
-    for line in lines {
-        if let Some(argument) = argument_of(linked, line) {
-            arguments.push(argument)?;
-        }
+    let mut counts = counts;
+    let mut supplies = Vec::new(alloc);
+    for export in exports {
+        let supply = read_supply(bytes, lead, tail, counts, *export)?;
+        counts = counts.counted(export.sort);
+        supplies.push(supply)?;
     }
-    Ok(arguments)
+    Ok(supplies)
 }
 
-/// An export of a component, under its own name.
-fn exported<'a>(component: usize, export: &'a ExportEntry<'_>) -> Supply<'a>
-    ensures export { (types : List Ty) (funcs : List FuncTy)
-        → supply_tree result ≡ exported component (export_def types funcs export.now) }
-    ensures texts { HasTexts (supply_tree result) }
-{
-    let name = export.name.as_str();
-    Supply {
-        name,
-        export: PartExport {
-            part: component,
-            sort: export_sort(&export.def),
-            name,
-        },
-    }
-}
-
-/// What a component exports, in order.
-pub fn exports_of<'a>(
+/// Reads one instance of a component, which is given these aliases.
+#[tactic(auto, unfolding(crate::specs::Grammar::instance_of))]
+fn read_instance<'a>(
     alloc: Global,
-    linked: &'a Linked<'_>,
+    bytes: &mut Cursor<'a, BundleReason>,
     component: usize,
-) -> Result<Vec<Supply<'a>>, AllocError>
-    ensures exports { IfOk result (λ v. map supply_tree v.items
-        ≡ exports_of (set_in linked.now) component) }
-    ensures texts { IfOk result (λ v. AllByRecursion HasTexts (map supply_tree v.items)) }
+    counts: Counts,
+    exports: &[PartExport<'a>],
+) -> Result<Vec<Supply<'a>>, ReadError<BundleReason>>
+    requires { HasRoom counts (length exports.now) }
+    ensures read { Reads (instance_of component counts (map export_tree exports.now))
+        (λ v. map supply_tree v.items) bytes.old bytes.new result }
+    ensures end { bytes.new.end ≡ bytes.old.end }
+    ensures count { IfOk result (λ v. length v.items ≡ length exports.now) }
 {
-    let mut exports = Vec::new(alloc);
-    let Some(checked) = linked.components().get(component) else {
-        return Ok(exports);
-    };
-    for export in checked.exports() {
-        exports.push(exported(component, export))?;
+    bytes.fixed(&[0x01, 0x00], BundleReason::UnknownCode)?;
+    read_this(bytes, component as u64)?;
+    read_this(bytes, exports.len() as u64)?;
+    read_supplies(alloc, bytes, &[], &[], counts, exports)
+}
+
+/// Reads the section of the instance of a component behind its id.
+pub fn read_instances<'a>(
+    alloc: Global,
+    bytes: &mut Cursor<'a, BundleReason>,
+    component: usize,
+    counts: Counts,
+    exports: &[PartExport<'a>],
+) -> Result<Vec<Supply<'a>>, ReadError<BundleReason>>
+    requires { HasRoom counts (length exports.now) }
+    ensures read { Reads (sized (instance_of component counts (map export_tree exports.now)))
+        (λ v. map supply_tree v.items) bytes.old bytes.new result }
+    ensures end { bytes.new.end ≡ bytes.old.end }
+    ensures count { IfOk result (λ v. length v.items ≡ length exports.now) }
+{
+    let size = read_short(bytes)?;
+    let fault = bytes.fault(BundleReason::SizeMismatch);
+    let before = bytes.rest.len();
+    let supplies = read_instance(alloc, bytes, component, counts, exports)?;
+    if before.saturating_sub(bytes.rest.len()) != size as usize {
+        return Err(fault);
     }
-    Ok(exports)
+    Ok(supplies)
+}
+
+/// Reads the exports of the bundle behind their aliases.
+#[tactic(auto, unfolding(crate::specs::Grammar::exports_of_all))]
+fn read_exported<'a>(
+    alloc: Global,
+    bytes: &mut Cursor<'a, BundleReason>,
+    counts: Counts,
+    exports: &[PartExport<'a>],
+) -> Result<Vec<Supply<'a>>, ReadError<BundleReason>>
+    requires { HasRoom counts (length exports.now) }
+    ensures read { Reads (exports_of_all counts (map export_tree exports.now))
+        (λ v. map supply_tree v.items) bytes.old bytes.new result }
+    ensures end { bytes.new.end ≡ bytes.old.end }
+{
+    read_this(bytes, exports.len() as u64)?;
+    read_supplies(alloc, bytes, &[0x00], &[0x00], counts, exports)
+}
+
+/// Reads the section of the exports of the bundle behind its id.
+pub fn read_export_section<'a>(
+    alloc: Global,
+    bytes: &mut Cursor<'a, BundleReason>,
+    counts: Counts,
+    exports: &[PartExport<'a>],
+) -> Result<Vec<Supply<'a>>, ReadError<BundleReason>>
+    requires { HasRoom counts (length exports.now) }
+    ensures read { Reads (sized (exports_of_all counts (map export_tree exports.now)))
+        (λ v. map supply_tree v.items) bytes.old bytes.new result }
+    ensures end { bytes.new.end ≡ bytes.old.end }
+{
+    let size = read_short(bytes)?;
+    let fault = bytes.fault(BundleReason::SizeMismatch);
+    let before = bytes.rest.len();
+    let supplies = read_exported(alloc, bytes, counts, exports)?;
+    if before.saturating_sub(bytes.rest.len()) != size as usize {
+        return Err(fault);
+    }
+    Ok(supplies)
 }

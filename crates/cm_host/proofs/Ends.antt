@@ -5,7 +5,7 @@ use Rattle.std.specs.Borrow.{Bor}
 use Rattle.std.specs.Prelude.{option_copied}
 use Rattle.cm_types.specs.Types.{FuncTy}
 use Rattle.cm_types.specs.Values.{Val}
-use Rattle.cm_abi_host_types.specs.HostTypes.{types_in, way_in}
+use Rattle.cm_host_values.specs.HostTypes.{types_in, way_in}
 use Rattle.cm_host_values.specs.Lowering.{DenoteThere}
 use Rattle.cm_host_values.specs.declared.lowering.Lowered.{Lowered}
 use Rattle.cm_machine.specs.cm_machine_model.declared.moves.Move.{Move}
@@ -24,15 +24,7 @@ use Rattle.cm_host.specs.declared.played.Played.{Played}
 use Rattle.cm_host.specs.declared.played.Played.TheVariants as played
 use Rattle.cm_host.specs.declared.seat.HostFunc.{HostFunc}
 use Rattle.cm_host.specs.declared.seat.Seat.{Seat}
-
-last_there : (first : Event) (told : List Event) → slice_get (first ∷ told) (length told) ≡ Some (last_of first told)
-last_there first [] = refl
-last_there first (x ∷ xs) = last_there x xs
-
-last_at : (events : List Event) (first : Event) (told : List Event) → events ≡ first ∷ told → slice_get events (length events - 1) ≡ Some (last_of first told)
-last_at events first told is =
-    let long : length events - 1 ≡ length told = omega (arith, ap length is) in
-    ap (λ n. slice_get events n) long ∙ ap (λ (xs : List Event). slice_get xs (length told)) is ∙ last_there first told
+use Rattle.cm_machine.proofs.Drives.{last_at}
 
 -- the last of a list of events, as the code finds it
 pub ends_with : (events : List Event) (o : Option (Bor Event)) (e : Event) → option_copied o ≡ slice_get events (length events - 1) → is_now o e → EndsWith events e

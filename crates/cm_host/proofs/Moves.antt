@@ -6,8 +6,8 @@ use Rattle.cm_machine.specs.cm_machine_model.Moves.{WritesAt}
 use Rattle.cm_machine.specs.cm_machine_model.declared.moves.Move.{Move}
 use Rattle.cm_machine.specs.cm_machine_model.declared.moves.Move.TheVariants as move
 use Rattle.cm_types.specs.Values.{Val}
-use Rattle.cm_abi_host_types.specs.HostTypes.{types_in, way_in}
-use Rattle.cm_abi_host_types.specs.declared.host_types.HostTypes.{HostTypes}
+use Rattle.cm_host_values.specs.HostTypes.{types_in, way_in}
+use Rattle.cm_host_values.specs.declared.host_types.HostTypes.{HostTypes}
 use Rattle.cm_host_values.specs.Lowering.{DenoteThere}
 use Rattle.cm_host.specs.Passing.{AreGrowths, AreWrites, IsReturnOf, Returns}
 

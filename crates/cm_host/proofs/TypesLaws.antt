@@ -1,6 +1,7 @@
 -- A host sees no resource: where an import counts them otherwise, its types are the same to it.
 use Rattle.std.proofs.Common.{◌≡◌, ℕ, List, [], Option, Some, None, refl, ap, subst, sym, ◌∙◌, IfOk, Result, Ok, Err}
 use Rattle.std.specs.Option.{option_map}
+use Rattle.cm_binary_model.specs.declared.canons.CanonOption.{CanonOption}
 use Rattle.cm_types.specs.Types.{Ty, Fields, Cases, FuncTy, bool, signed, unsigned, char, string}
 use Rattle.cm_types.specs.Types.{list, fixed_list, fields, cases, flags, own, borrow, no_fields}
 use Rattle.cm_types.specs.Types.{field, no_cases, plain, carrying}
@@ -8,11 +9,11 @@ use Rattle.cm_types_arena.specs.Placed.{moved_by, placed_func}
 use Rattle.cm_types_arena.specs.Replaced.{Standing, replaced, replaced_fields, replaced_cases}
 use Rattle.cm_types_arena.specs.TypeDefs.{func_at}
 use Rattle.cm_types_arena.specs.declared.placed.Placed.{Placed}
-use Rattle.cm_abi_host_types.specs.Indexed.{indexed, indexed_fields, indexed_cases}
-use Rattle.cm_abi_host_types.specs.Indexed.{host_types}
-use Rattle.cm_abi_host_types.specs.Rows.{fields_of_result}
-use Rattle.cm_abi_host_types.specs.declared.host_types.HostTypes.{HostTypes}
-use Rattle.cm_host.specs.Seats.{ArePassedBy, Exports, Imports}
+use Rattle.cm_host_values.specs.Indexed.{indexed, indexed_fields, indexed_cases}
+use Rattle.cm_host_values.specs.Indexed.{host_types}
+use Rattle.cm_host_values.specs.Rows.{fields_of_result}
+use Rattle.cm_host_values.specs.declared.host_types.HostTypes.{HostTypes}
+use Rattle.cm_host.specs.Seats.{ArePassedBy, Exports, Imports, IsUtf8}
 use Rattle.cm_host.specs.declared.seat.HostFunc.{HostFunc}
 use Rattle.cm_host.specs.declared.seat.Seat.{Seat}
 
@@ -59,14 +60,14 @@ passed_by_placed funcs p params results h =
     }
 
 -- what a function of a component is in terms of values
-pub imports_of : {E : Type 0} (s : Seat) (name : List ℕ) (core_func : ℕ) (funcs : List FuncTy) (p : Placed) (r : Result HostFunc E) → Imports s name core_func (placed_func funcs p)
-    → IfOk r (λ f. f.core_func ≡ core_func) → IfOk r (λ f. ArePassedBy (func_at funcs p.place) f.params f.results)
+pub imports_of : {E : Type 0} (s : Seat) (name : List ℕ) (core_func : ℕ) (funcs : List FuncTy) (p : Placed) (options : List CanonOption) (r : Result HostFunc E) → (IsUtf8 options → Imports s name core_func (placed_func funcs p))
+    → IfOk r (λ f. IsUtf8 options) → IfOk r (λ f. f.core_func ≡ core_func) → IfOk r (λ f. ArePassedBy (func_at funcs p.place) f.params f.results)
     → IfOk r (λ f. (x : FuncTy) × Imports s name f.core_func x × ArePassedBy x f.params f.results)
-imports_of s name core_func funcs p (Ok f) m i a = (placed_func funcs p, subst (λ c. Imports s name c (placed_func funcs p)) (sym i) m, passed_by_placed funcs p f.params f.results a)
-imports_of s name core_func funcs p (Err e) m i a = tt
+imports_of s name core_func funcs p options (Ok f) m u i a = (placed_func funcs p, subst (λ c. Imports s name c (placed_func funcs p)) (sym i) (m u), passed_by_placed funcs p f.params f.results a)
+imports_of s name core_func funcs p options (Err e) m u i a = tt
 
-pub exports_of : {E : Type 0} (s : Seat) (name : List ℕ) (core_func : ℕ) (funcs : List FuncTy) (p : Placed) (r : Result HostFunc E) → Exports s name core_func (placed_func funcs p)
-    → IfOk r (λ f. f.core_func ≡ core_func) → IfOk r (λ f. ArePassedBy (func_at funcs p.place) f.params f.results)
+pub exports_of : {E : Type 0} (s : Seat) (name : List ℕ) (core_func : ℕ) (funcs : List FuncTy) (p : Placed) (options : List CanonOption) (r : Result HostFunc E) → (IsUtf8 options → Exports s name core_func (placed_func funcs p))
+    → IfOk r (λ f. IsUtf8 options) → IfOk r (λ f. f.core_func ≡ core_func) → IfOk r (λ f. ArePassedBy (func_at funcs p.place) f.params f.results)
     → IfOk r (λ f. (x : FuncTy) × Exports s name f.core_func x × ArePassedBy x f.params f.results)
-exports_of s name core_func funcs p (Ok f) m i a = (placed_func funcs p, subst (λ c. Exports s name c (placed_func funcs p)) (sym i) m, passed_by_placed funcs p f.params f.results a)
-exports_of s name core_func funcs p (Err e) m i a = tt
+exports_of s name core_func funcs p options (Ok f) m u i a = (placed_func funcs p, subst (λ c. Exports s name c (placed_func funcs p)) (sym i) (m u), passed_by_placed funcs p f.params f.results a)
+exports_of s name core_func funcs p options (Err e) m u i a = tt

@@ -7,7 +7,7 @@ use Rattle.cm_types.specs.Types.{FuncTy}
 use Rattle.cm_types.specs.Values.{Val}
 use Rattle.cm_types.specs.declared.core_value.CoreValue.{CoreValue}
 use Rattle.cm_types.specs.declared.core_value.CoreValue.TheVariants as core_value
-use Rattle.cm_abi_host_types.specs.declared.host_types.HostTypes.{HostTypes}
+use Rattle.cm_host_values.specs.declared.host_types.HostTypes.{HostTypes}
 use Rattle.cm_machine.specs.cm_machine_guests.Sights.{Sight}
 use Rattle.cm_machine.specs.cm_machine_model.Memories.{memory_at}
 use Rattle.cm_machine.specs.cm_machine_model.Moves.{CallsWith, ReturnsWith}

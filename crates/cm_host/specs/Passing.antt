@@ -9,10 +9,10 @@ use Rattle.cm_types.specs.declared.core_value.CoreValue.{CoreValue}
 use Rattle.cm_abi_model.specs.Denotes.{Denotes}
 use Rattle.cm_abi_model.specs.Requests.{tuple_of}
 use Rattle.cm_abi_model.specs.Views.{View}
-use Rattle.cm_abi_host_types.specs.HostTypes.{types_in, way_in}
-use Rattle.cm_abi_host_types.specs.Indexed.{host_types}
-use Rattle.cm_abi_host_types.specs.Sees.{Sees, host_of}
-use Rattle.cm_abi_host_types.specs.declared.host_types.HostTypes.{HostTypes}
+use Rattle.cm_host_values.specs.HostTypes.{types_in, way_in}
+use Rattle.cm_host_values.specs.Indexed.{host_types}
+use Rattle.cm_host_values.specs.Sees.{Sees, host_of}
+use Rattle.cm_host_values.specs.declared.host_types.HostTypes.{HostTypes}
 use Rattle.cm_host_values.specs.Lowering.{DenoteThere}
 use Rattle.cm_host_values.specs.Reading.{IsReadBy}
 use Rattle.cm_host_values.specs.declared.lowering.Lowered.{Lowered}

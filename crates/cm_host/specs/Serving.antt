@@ -9,7 +9,7 @@ use Rattle.cm_types.specs.ValueTrees.{values_of}
 use Rattle.cm_types.specs.declared.core_value.CoreValue.{CoreValue}
 use Rattle.cm_types.specs.declared.core_value.CoreValue.TheVariants as core_value
 use Rattle.cm_types.specs.declared.values.Value.TheVariants as value
-use Rattle.cm_abi_host_types.specs.declared.host_types.HostTypes.{HostTypes}
+use Rattle.cm_host_values.specs.declared.host_types.HostTypes.{HostTypes}
 use Rattle.cm_machine.specs.cm_machine_guests.Moves.{IsNext}
 use Rattle.cm_machine.specs.cm_machine_guests.Sights.{Sight}
 use Rattle.cm_machine.specs.cm_machine_model.Moves.{CallsWith, ReturnsWith}

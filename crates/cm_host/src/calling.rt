@@ -18,7 +18,7 @@ ghost use Rattle.cm_host.specs.Faults.{IsBefore, MayBeBefore};
 ghost use Rattle.cm_host.specs.Passing.{Calls, Gets, IsCallOf};
 ghost use Rattle.cm_host.specs.Seats.{instance_of};
 ghost use Rattle.cm_host_values.specs.Lowering.{DenoteThere};
-ghost use Rattle.cm_abi_host_types.specs.HostTypes.{types_in, way_in};
+ghost use Rattle.cm_host_values.specs.HostTypes.{types_in, way_in};
 
 use crate::caller::Caller;
 use crate::fault::CallFault;

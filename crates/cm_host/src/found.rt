@@ -4,9 +4,11 @@ ghost use Rattle.std.specs.Prelude.{◌≡◌, ℕ, IfSome, Option, Some, slice_
 ghost use Rattle.cm_types_arena.specs.Placed.{placed_func};
 ghost use Rattle.cm_validate_spaces.specs.Checked.{funcs_in, spaces_in};
 ghost use Rattle.cm_validate_model.specs.Definitions.{lowered as lowered_def};
+ghost use Rattle.cm_host.specs.Seats.{is_utf8};
 
 use cm_binary_model::CanonOption;
 use cm_types_arena::{Extern, ExternDesc, Placed};
+use cm_validate_functions::StringEncoding;
 use cm_validate_spaces::{Checked, CoreFuncEntry, ExportedEntry, MadeFunc, MemberEntry, Resource};
 
 /// The core functions of a resource: those that make, tell and drop a handle of it, and its
@@ -66,15 +68,14 @@ pub(crate) fn lowered<'a>(checked: &Checked<'a>, core_func: u32) -> Option<Typed
     }
 }
 
-/// Whether strings are passed in UTF-8, as where no option says more (CanonicalABI.md, "Canonical
-/// Definitions").
-pub(crate) fn is_utf8(options: &[CanonOption]) -> bool {
-    for option in options {
-        if matches!(option, CanonOption::Utf16 | CanonOption::Latin1Utf16) {
-            return false;
-        }
+/// Whether an encoding is UTF-8.
+pub(crate) fn is_utf8(encoding: StringEncoding) -> bool
+    ensures { result ≡ is_utf8 encoding }
+{
+    match encoding {
+        StringEncoding::Utf8 => true,
+        StringEncoding::Utf16 | StringEncoding::Latin1OrUtf16 => false,
     }
-    true
 }
 
 /// Whether an import is an instance of a name, and its item of a number has this name.

@@ -1,16 +1,18 @@
 //! A component of a set that stands in for a host.
 
-ghost use Rattle.std.specs.Prelude.{◌≡◌, IfOk};
+ghost use Rattle.std.specs.Prelude.{◌≡◌, IfOk, Some, slice_get};
 ghost use Rattle.cm_types.specs.Types.{FuncTy};
 ghost use Rattle.cm_types_arena.specs.TypeDefs.{func_at};
 ghost use Rattle.cm_validate_functions.specs.Functions.{funcs_of};
-ghost use Rattle.cm_host.specs.Seats.{ArePassedBy, Exports, Imports, instance_of};
+ghost use Rattle.cm_host.specs.Seats.{ArePassedBy, Exports, Imports, IsUtf8};
+ghost use Rattle.cm_host.specs.Seats.{component_of, instance_of};
+ghost use Rattle.cm_machine.specs.cm_match.Linked.{set_in};
 
 use crate::fault::SeatFault;
 use crate::found::{ResourceFuncs, Typed, is_utf8, lowered, resource};
 use cm_host_values::HostTypes;
 use cm_machine::Linked;
-use cm_validate_functions::Functions;
+use cm_validate_functions::{Functions, encoding};
 use cm_validate_spaces::FuncEntry;
 use std::alloc::Global;
 
@@ -43,7 +45,9 @@ impl<'b, 'a> Seat<'b, 'a> {
         linked: &'b Linked<'a>,
         instance: u32,
     ) -> Result<Seat<'b, 'a>, SeatFault>
-        ensures { IfOk result (λ s. instance_of s ≡ instance) }
+        ensures instance { IfOk result (λ s. instance_of s ≡ instance) }
+        ensures component { IfOk result (λ s. slice_get (set_in linked.now) instance
+            ≡ Some (component_of s)) }
     {
         let Some(checked) = linked.components().get(instance as usize) else {
             return Err(SeatFault::NoComponent);
@@ -66,8 +70,9 @@ impl<'b, 'a> Seat<'b, 'a> {
         ensures itself { IfOk result (λ f. f.core_func ≡ typed.entry.core_func) }
         ensures passed { IfOk result (λ f. ArePassedBy
             (func_at (funcs_of self.now.functions) typed.entry.ty.place) f.params f.results) }
+        ensures utf8 { IfOk result (λ f. IsUtf8 typed.entry.options.now) }
     {
-        if !is_utf8(typed.options) {
+        if !is_utf8(encoding(typed.options)) {
             return Err(SeatFault::NotUtf8);
         }
         let types = self.functions.checked().types();

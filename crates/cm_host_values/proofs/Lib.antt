@@ -2,3 +2,8 @@ pub mod ContentLaws
 pub mod LoweringLaws
 pub mod LiftingLaws
 pub mod RequestingLaws
+pub mod IndexedLemmas
+pub mod IndexedLaws
+pub mod SeesLaws
+pub mod LeafLaws
+pub mod TypedRows

@@ -5,7 +5,7 @@ use Rattle.cm_handles.proofs.HandlesLaws.{none_there}
 use Rattle.cm_abi_model.specs.declared.encoding.StringEncoding.TheVariants.{Utf8}
 use Rattle.cm_abi_model.specs.Lifts.{IsGivenBy, LendsBelow}
 use Rattle.cm_abi_model.specs.Views.{View}
-use Rattle.cm_abi_host_types.specs.Sees.{host_of}
+use Rattle.cm_host_values.specs.Sees.{host_of}
 use Rattle.cm_host_values.specs.Reading.{IsReadBy}
 
 pub given_by : (w : View) (memory : List ℕ) (table : Handles) → IsReadBy w memory → table ≡ no_handles → IsGivenBy (host_of w) memory table Utf8

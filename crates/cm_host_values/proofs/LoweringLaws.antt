@@ -19,9 +19,9 @@ use Rattle.cm_abi_model.specs.Ways.{way_of}
 use Rattle.cm_abi_model.specs.declared.receiver.Receiver.{Receiver}
 use Rattle.cm_abi.specs.declared.passing.Passing.{Passing}
 use Rattle.cm_abi.specs.Lowers.{CanBeLowered, IsLowered, given_for, tuple_in}
-use Rattle.cm_abi_host_types.specs.Sees.{host_of}
-use Rattle.cm_abi_host_types.specs.Indexed.{host_types}
-use Rattle.cm_abi_host_types.specs.Sees.{Sees}
+use Rattle.cm_host_values.specs.Sees.{host_of}
+use Rattle.cm_host_values.specs.Indexed.{host_types}
+use Rattle.cm_host_values.specs.Sees.{Sees}
 use Rattle.cm_machine_guests.specs.declared.bump.Bump.{Bump}
 use Rattle.cm_abi_model.specs.Taken.{MAX_CONTENT}
 use Rattle.cm_host_values.specs.declared.fault.ValuesFault.{ValuesFault}

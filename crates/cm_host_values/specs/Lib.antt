@@ -4,3 +4,7 @@ pub mod Reading
 pub mod Answers
 pub mod Standing
 pub mod Lowering
+pub mod Indexed
+pub mod Rows
+pub mod HostTypes
+pub mod Sees

@@ -10,7 +10,7 @@ use Rattle.cm_abi_model.specs.Parts.{parts_in}
 use Rattle.cm_abi_model.specs.Requests.{requests, tuple_of}
 use Rattle.cm_abi_model.specs.Taken.{MAX_CONTENT}
 use Rattle.cm_abi_model.specs.Views.{View, Way}
-use Rattle.cm_abi_host_types.specs.Sees.{host_of}
+use Rattle.cm_host_values.specs.Sees.{host_of}
 use Rattle.cm_machine_guests.specs.declared.bump.Bump.{Bump}
 use Rattle.cm_host_values.specs.declared.fault.ValuesFault.{ValuesFault}
 use Rattle.cm_host_values.specs.declared.fault.ValuesFault.TheVariants as fault

@@ -15,9 +15,9 @@ ghost use Rattle.cm_abi_model.specs.Requests.{tuple_of};
 ghost use Rattle.cm_abi_model.specs.Taken.{MAX_CONTENT};
 ghost use Rattle.cm_abi_model.specs.Views.{View};
 ghost use Rattle.cm_abi_model.specs.Ways.{way_of};
-ghost use Rattle.cm_abi_host_types.specs.HostTypes.{types_in, way_in};
-ghost use Rattle.cm_abi_host_types.specs.Indexed.{host_types};
-ghost use Rattle.cm_abi_host_types.specs.Sees.{Sees};
+ghost use Rattle.cm_host_values.specs.HostTypes.{types_in, way_in};
+ghost use Rattle.cm_host_values.specs.Indexed.{host_types};
+ghost use Rattle.cm_host_values.specs.Sees.{Sees};
 ghost use Rattle.cm_host_values.specs.Answers.{HasNoRoom};
 ghost use Rattle.cm_host_values.specs.Lowering.{DenoteThere, IsValuesFault, WereGiven, asked_for};
 ghost use Rattle.cm_host_values.specs.Lowering.{content_of};
@@ -26,10 +26,10 @@ ghost use Rattle.cm_host_values.specs.Standing.{BeginsWith};
 use crate::cases::cases_fit;
 use crate::content::is_small;
 use crate::fault::ValuesFault;
+use crate::host_types::HostTypes;
+use crate::laws::{hosts_see_what_is_denoted, what_a_host_sees_has_no_handles};
 use crate::requesting::answers;
 use cm_abi::{Encodings, Passing, Receiver, StringEncoding, lower, requests};
-use cm_abi_host_types::HostTypes;
-use cm_abi_host_types::laws::{hosts_see_what_is_denoted, what_a_host_sees_has_no_handles};
 use cm_abi_model::MAX_CONTENT;
 use cm_abi_model::laws::{
     what_is_received_is_denoted, what_is_received_stays, what_is_stored_lies_in_regions,

@@ -9,14 +9,13 @@ use crate::stubbing::run_stub;
 use cm_hux_call::run_call;
 use cm_hux_json::{core_objects, core_text, signature_objects};
 use cm_hux_play::files::{
-    Asked, Ending, Escaped, Fault, Files, Loaded, Streams, ToolFault, load_file, report, tell,
-    tell_bytes, tell_fault,
+    Asked, Ending, Escaped, Fault, Files, Functions, Loaded, Streams, ToolFault, load_file, report,
+    tell, tell_bytes, tell_fault,
 };
 use cm_hux_play::{run_live, run_play};
 use cm_hux_show::{ShowFault, show_world};
 use cm_hux_words::{Answer, ConformWords, Habits, Request, WordsFault};
-use cm_types_signatures::Signature;
-use cm_validate_functions::Functions;
+use cm_types_arena::Signature;
 use std::alloc::Global;
 use std::io;
 use std::io::Write;

@@ -5,7 +5,7 @@ use cm_hux_play::files::{
     conform_help, kept, load_file, of_file, read_bytes, signature, text_of, wit_help, world_help,
     world_of,
 };
-use cm_types_signatures::Signature;
+use cm_types_arena::Signature;
 use cm_wit_conforms::ConformFault;
 use std::alloc::Global;
 

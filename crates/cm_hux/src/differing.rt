@@ -8,7 +8,7 @@ use cm_hux_play::files::{
 };
 use cm_hux_words::{DiffWords, Habits};
 use cm_tool_show::show;
-use cm_types_signatures::Signature;
+use cm_types_arena::Signature;
 use cm_wit_conforms::{ConformReason, conforms};
 use std::alloc::{AllocError, Global};
 use std::io::Write;

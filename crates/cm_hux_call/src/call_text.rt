@@ -2,7 +2,7 @@
 
 use cm_hux_drive::files::{Escaped, Fault};
 use cm_types::{Func, TypeNode, TypeTree, Value};
-use cm_values_parse::parse;
+use cm_values::parse;
 use std::alloc::{AllocError, Global};
 use std::rc::Rc;
 

@@ -1,10 +1,11 @@
 //! A caller behind some files.
 
+use cm_hux_drive::Set;
 use cm_hux_drive::files::{
-    Component, Fault, Linked, LoadedFiles, Set, StubFault, ToolFault, caller, checked_of, link,
-    of_file, signature,
+    Component, Fault, Linked, LoadedFiles, StubFault, ToolFault, caller, checked_of, link, of_file,
+    signature,
 };
-use cm_tool_lines::SetSize;
+use cm_hux_drive::lines::SetSize;
 use std::alloc::{AllocError, Global};
 
 /// What the component that calls is named.

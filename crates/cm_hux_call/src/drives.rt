@@ -1,8 +1,11 @@
 //! The drives of a call: those of a script, and behind them the call.
 
-use cm_hux_drive::files::{Ending, Fault, LIMIT, Misuse, Set, Stop, ToolFault, Watcher};
-use cm_hux_drive::{Checks, HuxScript, Moment, Played, Script, Seat, Watching, drive, seats_of};
-use cm_tool_lines::Drive;
+use cm_hux_drive::files::{Ending, Fault, LIMIT, Stop, ToolFault};
+use cm_hux_drive::lines::Drive;
+use cm_hux_drive::{
+    Checks, HuxScript, Misuse, Moment, Played, Script, Seat, Set, Watcher, Watching, drive,
+    seats_of,
+};
 use std::alloc::Global;
 use std::io::Write;
 

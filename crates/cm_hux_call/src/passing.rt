@@ -5,7 +5,7 @@ use cm_hux_drive::Seat;
 use cm_machine_guests::{Bump, MoveQueue, Room, WithAllocator};
 use cm_machine_model::{Flat, MAX_MEMORY_SIZE, Move, PAGE_SIZE};
 use cm_types::{CoreValue, Func, TypeTree, Value};
-use cm_values_text::{PrintFault, print};
+use cm_values::{PrintFault, print};
 use std::alloc::{AllocError, AllocFailed, Global};
 
 /// Why arguments are not passed.

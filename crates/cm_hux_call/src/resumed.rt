@@ -1,6 +1,7 @@
 //! What a call is answered with.
 
-use cm_hux_drive::files::{Event, Fault, Move, Object, Set, Stop, Watcher, tell, tell_fault, told};
+use cm_hux_drive::files::{Fault, Object, Stop, tell, tell_fault, told};
+use cm_hux_drive::{Event, Move, Set, Watcher};
 use cm_machine_model::Flat;
 use std::alloc::Global;
 use std::io::Write;

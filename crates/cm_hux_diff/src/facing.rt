@@ -1,4 +1,4 @@
-//! Imports and exports of both sides that stand under one name.
+//! One side's imports or exports beside those of the same name on the other side.
 
 use crate::difference::Side;
 use crate::listed::{Block, Item};

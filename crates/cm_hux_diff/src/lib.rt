@@ -1,4 +1,4 @@
-//! What one component or world lacks or has changed for those that use another.
+//! Compares two components or worlds: what the second lacks or has changed for users of the first.
 //!
 //! Both are given by the text that shows a signature (`cm_tool_show::show`): a line for each import
 //! and export, and one for each item of an instance.

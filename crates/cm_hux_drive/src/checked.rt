@@ -2,10 +2,11 @@
 
 use crate::checking::Checks;
 use crate::driving::{Driven, Played, Seat, drive};
+use crate::watcher::Watcher;
 use cm_hux_explain::{LastMove, Trap, explain_trap};
-use cm_hux_files::{Ending, Event, Fault, LIMIT, Move, Set, Stop, ToolFault, Watcher, report};
+use cm_hux_files::{Ending, Fault, LIMIT, Stop, ToolFault, report};
 use cm_hux_script::{HuxScript, Moment, Script};
-use cm_machine_guests::MoveQueue;
+use cm_machine::{Event, Move, MoveQueue, Set};
 use cm_tool_lines::Drive;
 use std::alloc::{AllocError, Global};
 use std::collections::VecDeque;

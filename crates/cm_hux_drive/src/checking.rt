@@ -1,8 +1,10 @@
 //! The checks of a script, while it is played.
 
 use crate::looking::{Found, event_found, memory_found, printed};
-use cm_hux_files::{Event, Fault, Set, Stop, Watcher, report};
+use crate::watcher::Watcher;
+use cm_hux_files::{Fault, Stop, report};
 use cm_hux_script::{Check, Moment, Wanted};
+use cm_machine::{Event, Set};
 use std::alloc::{AllocError, Global};
 use std::collections::VecDeque;
 use std::io::Write;

@@ -1,8 +1,8 @@
 //! Drives of a set, whose every event somebody sees.
 
 use cm_hux_explain::Trap;
-use cm_hux_files::{Event, Misuse, Move, Set, Stop};
-use cm_machine_guests::{MoveQueue, SeeingGuest, WithAllocator};
+use cm_hux_files::Stop;
+use cm_machine::{Event, Misuse, Move, MoveQueue, SeeingGuest, Set, WithAllocator};
 
 /// Who sees the moves and events of a drive. The first fault ends the play.
 pub trait Driven {

@@ -1,6 +1,6 @@
 //! What is found where a script says what is to be seen.
 
-use cm_hux_files::Event;
+use cm_machine::Event;
 use cm_tool_lines::write_event;
 use std::alloc::{AllocError, Global};
 

@@ -3,7 +3,7 @@
 use crate::fault::ExplainFault;
 use crate::row::Row;
 use crate::rows::all_rows;
-use cm_tool_text::{Escaped, is_near};
+use cm_tool_help_texts::{Escaped, is_near};
 use std::alloc::{AllocError, Global};
 use std::fmt::Write as _;
 use std::io;

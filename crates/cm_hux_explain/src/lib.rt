@@ -1,4 +1,4 @@
-//! What traps, misuses and reasons mean, their usual causes, and what to do.
+//! Explains traps, misuses and reasons: their meaning, their usual causes, and what to do.
 //!
 //! Causes and remedies stand in `explained.toml`, meanings in docs/RULES.md and on the pages of
 //! crates; the rows are written of both, by checks/explained.

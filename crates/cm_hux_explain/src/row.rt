@@ -23,7 +23,31 @@ pub struct Row {
     pub standard: &'static str,
 }
 
+/// How many fields a row has.
+const FIELDS: usize = 8;
+
 impl Row {
+    /// The row that a line spells: its fields in their order, with a tab between two.
+    pub(crate) fn of_line(line: &'static str) -> Row {
+        let mut fields = [""; FIELDS];
+        for (place, text) in line.split('\t').enumerate() {
+            if let Some(field) = fields.get_mut(place) {
+                *field = text;
+            }
+        }
+        let [kind, of, number, name, meaning, cause, remedy, standard] = fields;
+        Row {
+            kind,
+            of,
+            number: number.parse().unwrap_or(0),
+            name,
+            meaning,
+            cause,
+            remedy,
+            standard,
+        }
+    }
+
     /// Whether a word names its kind.
     pub(crate) fn is_of(&self, kind: &str) -> bool {
         self.kind == kind || self.of == kind

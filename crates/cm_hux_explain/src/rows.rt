@@ -3,7 +3,7 @@
 mod files;
 mod links;
 mod texts;
-pub(crate) mod traps;
+mod traps;
 mod validity;
 mod values;
 
@@ -14,11 +14,31 @@ use std::alloc::{AllocError, Global};
 /// Refused only where there is no memory.
 pub fn all_rows(alloc: Global) -> Result<Vec<Row>, AllocError> {
     let mut rows = Vec::new(alloc);
-    traps::add(&mut rows)?;
-    files::add(&mut rows)?;
-    validity::add(&mut rows)?;
-    links::add(&mut rows)?;
-    texts::add(&mut rows)?;
-    values::add(&mut rows)?;
+    for text in [
+        traps::ROWS,
+        files::ROWS,
+        validity::ROWS,
+        links::ROWS,
+        texts::ROWS,
+        values::ROWS,
+    ] {
+        add_rows(&mut rows, text)?;
+    }
     Ok(rows)
+}
+
+/// Adds the rows of a text.
+fn add_rows(rows: &mut Vec<Row>, text: &'static str) -> Result<(), AllocError> {
+    for line in text.lines() {
+        rows.push(Row::of_line(line))?;
+    }
+    Ok(())
+}
+
+/// The row of the trap with this number, from 1.
+pub(crate) fn trap_row(number: u32) -> Option<Row> {
+    traps::ROWS
+        .lines()
+        .map(Row::of_line)
+        .find(|row| row.of == "Trap" && row.number == number)
 }

@@ -1,8 +1,8 @@
 //! The lines of a drive that trapped.
 
-use crate::rows::traps::trap_rows;
+use crate::rows::trap_row;
 use cm_machine_model::{Move, Trap};
-use cm_tool_text::Escaped;
+use cm_tool_help_texts::Escaped;
 use std::io::Write;
 use std::{fmt, io};
 
@@ -47,8 +47,7 @@ pub fn explain_trap<E: Write>(err: &mut E, trap: Trap, last: LastMove<'_>) -> io
         err,
         "trapped: component {instance} ({component}) made \"{last}\": {trap:?}"
     )?;
-    let number = trap.number() as u32;
-    match trap_rows().iter().find(|row| row.number == number) {
+    match trap_row(trap.number() as u32) {
         Some(row) => {
             writeln!(err, ": {}", row.meaning)?;
             writeln!(err, "usual cause: {}", row.cause)

@@ -1,6 +1,6 @@
 -- The exit statuses of a command (this project's own choice).
 use Rattle.std.specs.Prelude.{ℕ}
-use Rattle.cm_tool.specs.cm_tool_commands.Statuses as tool
+use Rattle.cm_tool_commands.specs.Statuses as tool
 use Rattle.cm_hux_files.specs.declared.ending.Ending.{Ending}
 use Rattle.cm_hux_files.specs.declared.ending.Ending.TheVariants as ending
 use Rattle.cm_hux_files.specs.declared.fault.Fault.{Fault}

@@ -1,10 +1,10 @@
 //! How a command ends.
 
 ghost use Rattle.std.specs.Prelude.{◌≡◌};
-ghost use Rattle.cm_tool.specs.cm_tool_commands.Statuses.{outcome_status};
+ghost use Rattle.cm_tool_commands.specs.Statuses.{outcome_status};
 ghost use Rattle.cm_hux_files.specs.Endings.{ending_status};
 
-use cm_tool::Outcome;
+use cm_tool_commands::Outcome;
 
 /// The end of a command, or of what it did with one file or one drive, the better one first.
 #[derive(Clone, Copy, PartialEq, Eq, PartialOrd, Ord)]

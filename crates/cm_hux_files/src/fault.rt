@@ -1,8 +1,8 @@
 //! Why a command ends early, and the line that it prints then.
 
 ghost use Rattle.std.specs.Prelude.{◌≡◌};
-ghost use Rattle.cm_tool.specs.cm_tool_commands.Statuses as tool;
-ghost use Rattle.cm_tool.specs.cm_tool_commands.cm_tool_files.Numbers.{file_status};
+ghost use Rattle.cm_tool_commands.specs.Statuses as tool;
+ghost use Rattle.cm_tool_commands.specs.cm_tool_files.Numbers.{file_status};
 ghost use Rattle.cm_hux_files.specs.Endings.{ending_status, fault_status};
 ghost use Rattle.cm_hux_files.specs.declared.fault.Fault.TheVariants as fault;
 
@@ -11,8 +11,8 @@ use crate::trouble::Trouble;
 use cm_binary_model::LimitFault;
 use cm_shims::{FitFault, PlainFault};
 use cm_stubs::StubFault;
-use cm_tool::{Fault as ToolFault, FileReason};
-use cm_tool_text::Escaped;
+use cm_tool_commands::{Fault as ToolFault, FileReason};
+use cm_tool_help_texts::Escaped;
 use std::alloc::{AllocError, AllocFailed};
 use std::io::Write;
 use std::{fmt, io};

@@ -4,7 +4,9 @@ use crate::fault::Fault;
 use crate::trouble::Trouble;
 use cm_hux_json::{Object, Value, first_word};
 use cm_stubs::StubFault;
-use cm_tool::{BadFile, Fault as ToolFault, FileReason, LinkFault, Unfit, UnfitReason, ValidFault};
+use cm_tool_commands::{
+    BadFile, Fault as ToolFault, FileReason, LinkFault, Unfit, UnfitReason, ValidFault,
+};
 use std::alloc::{AllocError, Global};
 use std::io::Write;
 use std::str;

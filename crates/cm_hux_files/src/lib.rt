@@ -1,4 +1,4 @@
-//! What the commands of `hux` share: files, bundles, faults, endings, and who watches a play.
+//! Files, bundles, faults and endings, which the commands of `hux` share.
 //!
 //! Each reads component files that may have shims, as the standard tool chain writes them.
 #![tactic(auto)]
@@ -9,25 +9,22 @@ mod fault_objects;
 mod left_open;
 mod loading;
 mod making;
-mod sets;
 mod stop;
 mod streams;
 mod taking;
 mod trouble;
 mod type_imports;
-mod watcher;
 
 pub use cm_bundle::Bundle;
 pub use cm_hux_json::{Object, ToValue, Value, event_object, line_of};
 pub use cm_stubs::{Component, StubFault, caller, caller_for, provider_for};
-pub use cm_tool::{
-    Asked, Checked, Disk, Event, Fault as ToolFault, FileFault, Files, LIMIT, Linked, Misuse, Move,
-    Outcome, Set, Unfit, UnfitReason, Usage, checked_of, conform_component, link, read_file,
-    signature, text_of, words_of, world_of, write_plan,
+pub use cm_tool_commands::{
+    Asked, Checked, Disk, Fault as ToolFault, FileFault, Files, LIMIT, Linked, Outcome, Unfit,
+    UnfitReason, Usage, checked_of, conform_component, link, read_file, signature, text_of,
+    words_of, world_of, write_plan,
 };
-pub use cm_tool_help_texts::{wit_help, world_help};
+pub use cm_tool_help_texts::{Escaped, wit_help, world_help};
 pub use cm_tool_help_types::conform_help;
-pub use cm_tool_text::Escaped;
 pub use cm_validate_functions::Functions;
 pub use ending::Ending;
 pub use fault::{Fault, report};
@@ -37,8 +34,6 @@ pub use loading::{
     Loaded, LoadedFiles, kept, load_bytes, load_file, load_files, of_file, read_bytes,
 };
 pub use making::{made, write_arguments};
-pub use sets::make_set;
 pub use stop::{Stop, told};
 pub use streams::{DiskStreams, Streams, create, write_file, write_whole};
 pub use taking::read_bundle;
-pub use watcher::Watcher;

@@ -11,7 +11,7 @@ use crate::taking::{PART_NAMES, bundle_in, check_links};
 use cm_binary_forms::DecodeFault;
 use cm_binary_model::Component;
 use cm_shims::{Place, ShimFault, Shimmed, fits, read};
-use cm_tool::{
+use cm_tool_commands::{
     BadFile, Checked, Fault as ToolFault, FileReason, Files, LinkFault, Linked, MAX_COMPONENTS,
     ValidFault, checked_of, component_of, link, read_file, signature,
 };

@@ -4,7 +4,7 @@ use crate::trouble::Trouble;
 use crate::type_imports::imports_type;
 use cm_bundle::{Bundle, BundlingFault, Part, bundle};
 use cm_match::Linked;
-use cm_tool_text::Escaped;
+use cm_tool_help_texts::Escaped;
 use std::alloc::Global;
 use std::io;
 use std::io::Write;

@@ -3,11 +3,11 @@
 use crate::making::made;
 use crate::trouble::Trouble;
 use cm_bundle::{Bundle, BundleReason, unbundle};
-use cm_match::Linked;
+use cm_match::{Linked, MAX_COMPONENTS};
 use std::alloc::{AllocError, Global};
 
 /// The names of the parts of a bundle, from the first on: one more than a set may have.
-pub(crate) const PART_NAMES: [&str; 17] = [
+pub(crate) const PART_NAMES: [&str; MAX_COMPONENTS + 1] = [
     "0.wasm", "1.wasm", "2.wasm", "3.wasm", "4.wasm", "5.wasm", "6.wasm", "7.wasm", "8.wasm",
     "9.wasm", "10.wasm", "11.wasm", "12.wasm", "13.wasm", "14.wasm", "15.wasm", "16.wasm",
 ];

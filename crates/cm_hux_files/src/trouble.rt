@@ -1,7 +1,7 @@
 //! Why a bundle is not made or taken.
 
 use cm_bundle::{BundleFault, BundlingFault};
-use cm_tool_text::Escaped;
+use cm_tool_help_texts::Escaped;
 use std::alloc::{AllocError, AllocFailed};
 use std::fmt;
 

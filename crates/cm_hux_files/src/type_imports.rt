@@ -1,7 +1,7 @@
 //! Files that import types.
 
 use cm_binary_grammar::ReadError;
-use cm_shims_model::{WideDesc, WideImport, WideSection, read_wide_file};
+use cm_shims_plain::{WideDesc, WideImport, WideSection, read_wide_file};
 use std::alloc::{AllocError, Global};
 
 /// Whether a component file imports a type (Binary.md, "Import and Export Definitions"): no export

@@ -7,8 +7,9 @@ use crate::objects::Object;
 use crate::types::{fields_value, type_object};
 use cm_tool_show::{Page, ShowFault};
 use cm_types::ResourceId;
-use cm_types_arena::{ItemDesc, Move, Placed, moved_resource};
-use cm_types_signatures::{Desc, Externs, Items, NamedDesc, NamedItem, Signature};
+use cm_types_arena::{
+    Desc, Externs, ItemDesc, Items, Move, NamedDesc, NamedItem, Placed, Signature, moved_resource,
+};
 use serde_json::Value;
 use std::alloc::{AllocError, Global};
 

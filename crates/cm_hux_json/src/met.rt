@@ -2,8 +2,7 @@
 
 use cm_hux_show::{Key, Used, last_resources};
 use cm_tool_show::Counting;
-use cm_types_arena::{ItemDesc, Move, Placed, Types};
-use cm_types_signatures::{Desc, Externs, Items, Signature};
+use cm_types_arena::{Desc, Externs, ItemDesc, Items, Move, Placed, Signature, Types};
 use std::alloc::{AllocError, Global};
 use std::collections::BTreeMap;
 

@@ -3,8 +3,7 @@
 use crate::met::Met;
 use cm_hux_show::{Key, Used, primitive_word};
 use cm_types::TypeNode;
-use cm_types_arena::Types;
-use cm_types_signatures::Signature;
+use cm_types_arena::{Signature, Types};
 use serde_json::{ToValue, Value};
 use std::alloc::{AllocError, Global};
 use std::collections::BTreeMap;

@@ -19,7 +19,7 @@ mod telling;
 mod told_events;
 mod told_play;
 
-pub use cm_hux_files as files;
+pub use cm_hux_drive::files;
 pub use graph::write_graph;
 pub use living::run_live;
 pub use named::component_names;

@@ -4,14 +4,14 @@ use crate::mirrored::Mirrored;
 use crate::named::component_names;
 use crate::overhearing::Overhearing;
 use crate::said_lines::SaidLines;
-use cm_hux_files::{
-    Ending, Fault, Files, Linked, LoadedFiles, Set, Streams, ToolFault, create, load_files,
-    make_set,
+use cm_hux_drive::files::{
+    Ending, Fault, Files, Linked, LoadedFiles, Streams, ToolFault, create, load_files,
 };
+use cm_hux_drive::lines::SetSize;
+use cm_hux_drive::{Set, make_set};
 use cm_hux_words::LiveWords;
 use cm_live::{Record, Served, Session, serve};
 use cm_live_plan::{pages_of, write_component};
-use cm_tool_lines::SetSize;
 use cm_tool_script::{read_u32, read_u64};
 use std::alloc::Global;
 use std::io;

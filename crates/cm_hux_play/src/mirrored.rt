@@ -2,7 +2,8 @@
 
 use crate::overhearing::Listener;
 use crate::telling::{Teller, Telling};
-use cm_hux_files::{Linked, Misuse, Move, Set, Stop, Watcher};
+use cm_hux_drive::files::{Linked, Stop};
+use cm_hux_drive::{Misuse, Move, Set, Watcher};
 use cm_hux_said::Watch;
 use cm_tool_script::Statement;
 use std::alloc::{AllocError, Global};

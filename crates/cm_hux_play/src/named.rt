@@ -1,6 +1,6 @@
 //! The names of components.
 
-use cm_hux_files::LoadedFiles;
+use cm_hux_drive::files::LoadedFiles;
 use cm_hux_said::component_name;
 use std::alloc::{AllocError, Global};
 

@@ -1,4 +1,4 @@
-//! Overhearing the lines that a reader hands on.
+//! A reader that passes on what another one reads, and calls a listener with each line.
 
 use std::alloc::Global;
 use std::io;

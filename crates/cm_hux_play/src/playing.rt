@@ -2,8 +2,8 @@
 
 use crate::named::component_names;
 use crate::told_play::{Form, Play, Wanted};
-use cm_hux_drive::{HuxScript, Names, load_script};
-use cm_hux_files::{Ending, Fault, Files, Linked, LoadedFiles, load_files, make_set};
+use cm_hux_drive::files::{Ending, Fault, Files, Linked, LoadedFiles, load_files};
+use cm_hux_drive::{HuxScript, Names, load_script, make_set};
 use cm_hux_words::{Habits, PlayWords};
 use cm_tool_script::read_u64;
 use std::alloc::{AllocError, Global};

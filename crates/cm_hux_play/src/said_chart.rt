@@ -2,7 +2,7 @@
 
 use crate::diagram::Diagram;
 use crate::telling::Teller;
-use cm_hux_files::{Fault, Stop};
+use cm_hux_drive::files::{Fault, Stop};
 use cm_hux_said::Message;
 use std::io;
 use std::io::Write;

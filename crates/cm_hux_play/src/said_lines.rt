@@ -1,7 +1,7 @@
 //! Calls and results as lines.
 
 use crate::telling::Teller;
-use cm_hux_files::{Fault, Stop};
+use cm_hux_drive::files::{Fault, Stop};
 use cm_hux_said::{Message, write_message};
 use std::io::Write;
 

@@ -1,7 +1,7 @@
 //! Calls and results as objects, or only the traps.
 
 use crate::telling::Teller;
-use cm_hux_files::{Fault, Object, Stop, ToValue, Value, tell, tell_fault, told};
+use cm_hux_drive::files::{Fault, Object, Stop, ToValue, Value, tell, tell_fault, told};
 use cm_hux_said::{Message, Spoken, Trapping, write_message};
 use cm_hux_words::Habits;
 use std::alloc::{AllocError, Global};

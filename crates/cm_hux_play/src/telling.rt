@@ -1,6 +1,7 @@
 //! Telling what components say to one another.
 
-use cm_hux_files::{Event, Fault, Move, Set, Stop, Watcher};
+use cm_hux_drive::files::{Fault, Stop};
+use cm_hux_drive::{Event, Move, Set, Watcher};
 use cm_hux_said::{Actor, Message, Watch};
 use std::alloc::Global;
 

@@ -1,10 +1,9 @@
 //! Events, and faults of drives, as habits want them told.
 
-use cm_hux_files::{
-    Event, Fault, Move, Object, Set, Stop, Watcher, event_object, line_of, tell, tell_fault, told,
-};
+use cm_hux_drive::files::{Fault, Object, Stop, event_object, line_of, tell, tell_fault, told};
+use cm_hux_drive::lines::write_event;
+use cm_hux_drive::{Event, Move, Set, Watcher};
 use cm_hux_words::Habits;
-use cm_tool_lines::write_event;
 use std::alloc::Global;
 use std::io::Write;
 

@@ -1,4 +1,4 @@
-//! What the core functions are by which instances call others.
+//! Finds the function of another instance that a core function calls, if it calls one.
 
 use crate::bounded::{Bounded, MAX_WORDS};
 use crate::naming::{ImportName, import_name, resource_name};

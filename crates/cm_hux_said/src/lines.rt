@@ -1,7 +1,7 @@
 //! A line a message.
 
 use crate::messages::{Message, Spoken, Trapping};
-use cm_tool_text::Escaped;
+use cm_tool_help_texts::Escaped;
 use std::io::Write;
 use std::{fmt, io};
 

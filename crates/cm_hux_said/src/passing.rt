@@ -1,9 +1,9 @@
 //! The values that core values denote in the view of an instance.
 
-use cm_abi_host_types::HostTypes;
 use cm_abi_lift::{Passed, lift};
 use cm_abi_model::StringEncoding;
 use cm_handles::Table;
+use cm_host_values::HostTypes;
 use cm_types::{CoreValue, Func, Value};
 use std::alloc::{AllocError, Global};
 

@@ -3,11 +3,11 @@
 use crate::bounded::{Bounded, front_of};
 use crate::naming::Handles;
 use cm_types::{Case, Field, Label, TypeNode, TypeTree, Value};
-use cm_values_text::print;
+use cm_values::print;
 use std::alloc::{AllocError, Global};
 use std::rc::Rc;
 
-/// Puts a value whose handles are indices: `print` of cm_values_text, but for handles, which are
+/// Puts a value whose handles are indices: `print` of cm_values, but for handles, which are
 /// named. Nothing is looked at behind a cut, so that a long value costs what is shown of it.
 #[cycle(wording)]
 pub(crate) fn put_value(

@@ -6,8 +6,7 @@ use crate::types::primitive_word;
 use crate::writer::Writer;
 use cm_tool_show::{Counting, ShowFault};
 use cm_types::{ExternNameForm, ResourceId};
-use cm_types_arena::{ItemDesc, Move, Placed};
-use cm_types_signatures::{Items, NamedItem};
+use cm_types_arena::{ItemDesc, Items, Move, NamedItem, Placed};
 
 /// A function of a resource, as WIT writes it there.
 #[derive(Clone, Copy)]
@@ -157,11 +156,11 @@ impl<'a> Writer<'a> {
             }
         }
         self.prepare_func(scope, used)?;
-        self.page.put(scope.margin)?;
-        self.put_form(name)?;
-        self.page.put(": ")?;
+        self.book.put(scope.margin)?;
+        self.book.put_form(name)?;
+        self.book.put(": ")?;
         self.write_func(scope, used, 0)?;
-        self.page.put(";\n")
+        self.book.put(";\n")
     }
 
     /// Adds a type under one of its names: the first is declared, or brought where it was declared
@@ -238,14 +237,14 @@ impl<'a> Writer<'a> {
             Some(places) => places.clone()?,
         };
         self.prepare_members(scope, items, &members)?;
-        self.put_all(&[scope.margin, "resource "])?;
-        self.put_name(name)?;
+        self.book.put_all(&[scope.margin, "resource "])?;
+        self.book.put_name(name)?;
         if members.is_empty() {
-            return self.page.put(";\n");
+            return self.book.put(";\n");
         }
-        self.page.put(" {\n")?;
+        self.book.put(" {\n")?;
         self.write_members(scope, items, &members)?;
-        self.put_all(&[scope.margin, "}\n"])
+        self.book.put_all(&[scope.margin, "}\n"])
     }
 
     fn prepare_members(
@@ -289,24 +288,24 @@ impl<'a> Writer<'a> {
         member: Member<'a>,
         used: Used,
     ) -> Result<(), ShowFault> {
-        self.put_all(&[scope.margin, "  "])?;
+        self.book.put_all(&[scope.margin, "  "])?;
         match member {
             Member::Method(name) => {
-                self.put_label(name)?;
-                self.page.put(": ")?;
+                self.book.put_label(name)?;
+                self.book.put(": ")?;
                 self.write_func(scope, used, 1)?;
             }
             Member::Static(name) => {
-                self.put_label(name)?;
-                self.page.put(": static ")?;
+                self.book.put_label(name)?;
+                self.book.put(": static ")?;
                 self.write_func(scope, used, 0)?;
             }
             Member::Constructor => {
-                self.page.put("constructor")?;
+                self.book.put("constructor")?;
                 self.write_params(scope, used, 0)?;
             }
         }
-        self.page.put(";\n")
+        self.book.put(";\n")
     }
 
     /// Gives the types in a function names in a scope.
@@ -335,7 +334,7 @@ impl<'a> Writer<'a> {
         used: Used,
         without: usize,
     ) -> Result<(), ShowFault> {
-        self.page.put("func")?;
+        self.book.put("func")?;
         self.write_params(scope, used, without)?;
         let types = self.types;
         if used.place >= types.func_count() {
@@ -344,7 +343,7 @@ impl<'a> Writer<'a> {
         match types.func_result(used.place) {
             None => Ok(()),
             Some(answer) => {
-                self.page.put(" -> ")?;
+                self.book.put(" -> ")?;
                 self.write_used(scope, used.at(answer))
             }
         }
@@ -356,16 +355,16 @@ impl<'a> Writer<'a> {
         used: Used,
         without: usize,
     ) -> Result<(), ShowFault> {
-        self.page.put("(")?;
+        self.book.put("(")?;
         let types = self.types;
         if used.place < types.func_count() {
             let fields = types.func(used.place).params.iter();
             let params = fields.zip(types.func_params(used.place)).skip(without);
             for (index, (field, param)) in params.enumerate() {
-                self.separate(index)?;
+                self.book.separate(index)?;
                 self.write_field(scope, field, used.at(*param))?;
             }
         }
-        self.page.put(")")
+        self.book.put(")")
     }
 }

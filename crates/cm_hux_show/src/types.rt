@@ -160,9 +160,9 @@ impl<'a> Writer<'a> {
         }
         let name = self.make_name();
         self.settle(scope, key, name)?;
-        self.put_all(&[scope.margin, "resource "])?;
-        self.put_name(name)?;
-        self.page.put(";\n")
+        self.book.put_all(&[scope.margin, "resource "])?;
+        self.book.put_name(name)?;
+        self.book.put(";\n")
     }
 
     /// Adds a type where it is used: its name, or itself where it has none.
@@ -171,7 +171,7 @@ impl<'a> Writer<'a> {
         match self.node(used.place) {
             None => Ok(()),
             Some(node) => match self.name_in(scope, node, used)? {
-                Some(name) => self.put_name(name),
+                Some(name) => self.book.put_name(name),
                 None => self.write_spelled(scope, node, used),
             },
         }
@@ -188,12 +188,12 @@ impl<'a> Writer<'a> {
         match node {
             TypeNode::Own(id) => self.write_resource(scope, used.resource(*id)),
             TypeNode::Borrow(id) => {
-                self.page.put("borrow<")?;
+                self.book.put("borrow<")?;
                 self.write_resource(scope, used.resource(*id))?;
-                self.page.put(">")
+                self.book.put(">")
             }
             _ => match primitive_word(node) {
-                Some(word) => self.page.put(word),
+                Some(word) => self.book.put(word),
                 None => self.write_parts(scope, node, used),
             },
         }
@@ -210,7 +210,7 @@ impl<'a> Writer<'a> {
         let parts = self.parts(used.place);
         for (index, part) in parts.iter().enumerate() {
             if *part < used.place {
-                self.page.put(text_before(node, index))?;
+                self.book.put(text_before(node, index))?;
                 self.write_used(scope, used.at(*part))?;
             }
         }
@@ -220,18 +220,18 @@ impl<'a> Writer<'a> {
     /// Adds what stands behind the parts of a type that holds others.
     fn end_parts(&mut self, node: &TypeNode, is_empty: bool) -> Result<(), ShowFault> {
         if let TypeNode::FixedList { length, .. } = node {
-            self.page.put(", ")?;
-            self.page.put_number(*length as usize)?;
+            self.book.put(", ")?;
+            self.book.put_number(*length as usize)?;
         }
         // Of what is used without a declaration only a result may hold nothing.
-        self.page.put(if is_empty { "result" } else { ">" })
+        self.book.put(if is_empty { "result" } else { ">" })
     }
 
     /// Adds the name of a resource.
     fn write_resource(&mut self, scope: &Scope<'a>, number: u64) -> Result<(), ShowFault> {
         match scope.name(Key::Resource(number)) {
-            Some(name) => self.put_name(name),
-            None => self.page.put_number(number as usize),
+            Some(name) => self.book.put_name(name),
+            None => self.book.put_number(number as usize),
         }
     }
 
@@ -249,12 +249,12 @@ impl<'a> Writer<'a> {
             TypeNode::Record(fields) => {
                 self.begin_block(scope, "record ", name)?;
                 self.write_fields(scope, fields, used)?;
-                self.page.put(" }\n")?;
+                self.book.put(" }\n")?;
             }
             TypeNode::Variant(cases) => {
                 self.begin_block(scope, "variant ", name)?;
                 self.write_cases(scope, cases, used)?;
-                self.page.put(" }\n")?;
+                self.book.put(" }\n")?;
             }
             TypeNode::Enum(labels) => self.write_labels(scope, "enum ", name, labels)?,
             TypeNode::Flags(labels) => self.write_labels(scope, "flags ", name, labels)?,
@@ -273,9 +273,9 @@ impl<'a> Writer<'a> {
         word: &str,
         name: Name<'a>,
     ) -> Result<(), ShowFault> {
-        self.page.put(scope.margin)?;
-        self.page.put(word)?;
-        self.put_name(name)
+        self.book.put(scope.margin)?;
+        self.book.put(word)?;
+        self.book.put_name(name)
     }
 
     fn begin_block(
@@ -285,7 +285,7 @@ impl<'a> Writer<'a> {
         name: Name<'a>,
     ) -> Result<(), ShowFault> {
         self.begin_line(scope, word, name)?;
-        self.page.put(" { ")
+        self.book.put(" { ")
     }
 
     /// Declares a type that WIT writes where it is used.
@@ -297,9 +297,9 @@ impl<'a> Writer<'a> {
         used: Used,
     ) -> Result<(), ShowFault> {
         self.begin_line(scope, "type ", name)?;
-        self.page.put(" = ")?;
+        self.book.put(" = ")?;
         self.write_spelled(scope, node, used)?;
-        self.page.put(";\n")
+        self.book.put(";\n")
     }
 
     /// Declares that a name is another one's in the same scope.
@@ -310,17 +310,9 @@ impl<'a> Writer<'a> {
         first: Name<'a>,
     ) -> Result<(), ShowFault> {
         self.begin_line(scope, "type ", name)?;
-        self.page.put(" = ")?;
-        self.put_name(first)?;
-        self.page.put(";\n")
-    }
-
-    /// Adds what stands before a member of a list, from 0.
-    pub(crate) fn separate(&mut self, index: usize) -> Result<(), ShowFault> {
-        if index == 0 {
-            return Ok(());
-        }
-        self.page.put(", ")
+        self.book.put(" = ")?;
+        self.book.put_name(first)?;
+        self.book.put(";\n")
     }
 
     fn write_fields(
@@ -331,7 +323,7 @@ impl<'a> Writer<'a> {
     ) -> Result<(), ShowFault> {
         let parts = self.parts(used.place);
         for (index, (field, part)) in fields.iter().zip(parts).enumerate() {
-            self.separate(index)?;
+            self.book.separate(index)?;
             self.write_field(scope, field, used.at(*part))?;
         }
         Ok(())
@@ -344,8 +336,8 @@ impl<'a> Writer<'a> {
         field: &Field,
         used: Used,
     ) -> Result<(), ShowFault> {
-        self.put_label(field.label.as_str())?;
-        self.page.put(": ")?;
+        self.book.put_label(field.label.as_str())?;
+        self.book.put(": ")?;
         self.write_used(scope, used)
     }
 
@@ -357,8 +349,8 @@ impl<'a> Writer<'a> {
     ) -> Result<(), ShowFault> {
         let mut payloads = self.parts(used.place).iter();
         for (index, case) in cases.iter().enumerate() {
-            self.separate(index)?;
-            self.put_label(case.label.as_str())?;
+            self.book.separate(index)?;
+            self.book.put_label(case.label.as_str())?;
             if case.payload.is_some() {
                 if let Some(part) = payloads.next() {
                     self.write_payload(scope, used.at(*part))?;
@@ -369,9 +361,9 @@ impl<'a> Writer<'a> {
     }
 
     fn write_payload(&mut self, scope: &Scope<'a>, used: Used) -> Result<(), ShowFault> {
-        self.page.put("(")?;
+        self.book.put("(")?;
         self.write_used(scope, used)?;
-        self.page.put(")")
+        self.book.put(")")
     }
 
     fn write_labels(
@@ -383,9 +375,9 @@ impl<'a> Writer<'a> {
     ) -> Result<(), ShowFault> {
         self.begin_block(scope, word, name)?;
         for (index, label) in labels.iter().enumerate() {
-            self.separate(index)?;
-            self.put_label(label.as_str())?;
+            self.book.separate(index)?;
+            self.book.put_label(label.as_str())?;
         }
-        self.page.put(" }\n")
+        self.book.put(" }\n")
     }
 }

@@ -9,7 +9,7 @@ use crate::scope::Scope;
 use crate::writer::Writer;
 use cm_tool_show::{Counting, ShowFault};
 use cm_types::ExternNameForm;
-use cm_types_signatures::{Desc, Externs, NamedDesc, Signature};
+use cm_types_arena::{Desc, Externs, Items, NamedDesc, Signature};
 use std::alloc::Global;
 
 /// The text of a signature as WIT writes it (WIT.md, "Worlds"): each import and then each export,
@@ -29,15 +29,24 @@ pub fn show_world(alloc: Global, signature: &Signature) -> Result<String, ShowFa
     ensures short { IfOk result (λ text. length (string_bytes text) ≤ MAX_SHOWN) }
 {
     let mut writer = Writer::new(alloc, signature.types())?;
-    let mut world = Scope::new(alloc, None, "");
-    writer.note_labels(&mut world, signature.imports())?;
-    writer.note_labels(&mut world, signature.exports())?;
-    writer.write_externs(&mut world, "import ", signature.imports())?;
-    writer.write_externs(&mut world, "export ", signature.exports())?;
-    writer.page.finish()
+    let written = writer.write_world(&mut Scope::new(alloc, None, ""), signature);
+    written?;
+    writer.book.finish()
 }
 
 impl<'a> Writer<'a> {
+    /// Adds the lines of all imports and exports.
+    fn write_world(
+        &mut self,
+        world: &mut Scope<'a>,
+        signature: &'a Signature,
+    ) -> Result<(), ShowFault> {
+        self.note_labels(world, signature.imports())?;
+        self.note_labels(world, signature.exports())?;
+        self.write_externs(world, "import ", signature.imports())?;
+        self.write_externs(world, "export ", signature.exports())
+    }
+
     /// Notes the labels that imports or exports take in the world.
     fn note_labels(
         &mut self,
@@ -88,22 +97,33 @@ impl<'a> Writer<'a> {
                 self.prepare_func(world, used)?;
                 self.begin_extern(word, each.name)?;
                 self.write_func(world, used, 0)?;
-                self.page.put(";\n")
+                self.book.put(";\n")
             }
             Desc::Instance(items) => {
                 let mut scope = Scope::new(self.alloc, Some(each.name), "  ");
-                self.note_items(&mut scope, items)?;
-                self.begin_extern(word, each.name)?;
-                self.page.put("interface {\n")?;
-                self.write_items(&mut scope, items)?;
-                self.page.put("}\n")
+                self.write_instance(&mut scope, word, each.name, items)
             }
         }
     }
 
+    /// Adds an instance, in a scope of its own.
+    fn write_instance(
+        &mut self,
+        scope: &mut Scope<'a>,
+        word: &str,
+        name: ExternNameForm<'a>,
+        items: Items<'a>,
+    ) -> Result<(), ShowFault> {
+        self.note_items(scope, items)?;
+        self.begin_extern(word, name)?;
+        self.book.put("interface {\n")?;
+        self.write_items(scope, items)?;
+        self.book.put("}\n")
+    }
+
     fn begin_extern(&mut self, word: &str, name: ExternNameForm<'a>) -> Result<(), ShowFault> {
-        self.page.put(word)?;
-        self.put_form(name)?;
-        self.page.put(": ")
+        self.book.put(word)?;
+        self.book.put_form(name)?;
+        self.book.put(": ")
     }
 }

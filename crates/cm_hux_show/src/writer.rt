@@ -1,5 +1,9 @@
 //! What is written, and what is declared in it.
 
+ghost use Rattle.std.specs.Prelude.{◌≤◌, IfOk, length};
+ghost use Rattle.std.specs.String.{string_bytes};
+ghost use Rattle.cm_tool_show.specs.declared.page.TheConstants.{MAX_SHOWN};
+
 use crate::keys::{Key, TypeKeys, Used, last_resources};
 use crate::scope::{Home, Name, Scope};
 use crate::shapes::shape_of;
@@ -16,102 +20,47 @@ use std::collections::BTreeMap;
 pub(crate) struct Writer<'a> {
     pub alloc: Global,
     pub types: &'a Types,
-    pub page: Page,
+    pub book: Book,
+    homes: BTreeMap<Key, Home<'a>>,
+}
+
+/// The text so far, and the numbers that types and names have in it.
+#[derive(Drop)]
+pub(crate) struct Book {
+    page: Page,
     lasts: Vec<Option<u64>>,
     /// The numbers of types that were met, and the texts by which they are equal.
     numbers: BTreeMap<Key, usize>,
     shapes: TextNumbers,
-    homes: BTreeMap<Key, Home<'a>>,
     /// How many names were made.
     made: usize,
 }
 
-impl<'a> Writer<'a> {
-    /// An empty text, over these types.
-    pub(crate) fn new(alloc: Global, types: &'a Types) -> Result<Writer<'a>, ShowFault> {
-        let lasts = last_resources(alloc, types)?;
-        Ok(Writer {
-            alloc,
-            types,
-            page: Page::new(alloc),
-            lasts,
-            numbers: BTreeMap::new(alloc),
-            shapes: TextNumbers::new(alloc),
-            homes: BTreeMap::new(alloc),
-            made: 0,
-        })
+impl Book {
+    /// The text as it is, where it is not too long.
+    pub(crate) fn finish(self) -> Result<String, ShowFault>
+        ensures short { IfOk result (λ text. length (string_bytes text) ≤ MAX_SHOWN) }
+    {
+        self.page.finish()
     }
 
-    /// The node of a type.
-    pub(crate) fn node(&self, place: usize) -> Option<&'a TypeNode> {
-        let types = self.types;
-        if place < types.len() {
-            Some(types.node(place))
-        } else {
-            None
-        }
+    /// Adds a text.
+    pub(crate) fn put(&mut self, text: &str) -> Result<(), ShowFault> {
+        self.page.put(text)
     }
 
-    /// The places of a type's parts.
-    pub(crate) fn parts(&self, place: usize) -> &'a [usize] {
-        let types = self.types;
-        if place < types.len() {
-            types.parts(place)
-        } else {
-            &[]
-        }
-    }
-
-    /// What a type is named by.
-    pub(crate) fn keys(&mut self, used: Used) -> Result<TypeKeys, ShowFault> {
-        Ok(TypeKeys {
-            own: used.key(&self.lasts),
-            equal: Key::Equal(self.number(used)?),
-        })
-    }
-
-    /// The number of a type: equal exactly where types are equal. What it holds costs its own
-    /// length once for each way in which its resources are counted.
-    fn number(&mut self, used: Used) -> Result<usize, ShowFault> {
-        let key = used.key(&self.lasts);
-        if let Some(number) = self.numbers.get(&key) {
-            return Ok(*number);
-        }
-        let mut parts = Vec::new(self.alloc);
-        for part in self.parts(used.place) {
-            if *part < used.place {
-                let number = self.number(used.at(*part))?;
-                parts.push(number)?;
-            }
-        }
-        let number = self.number_of_parts(used, &parts)?;
-        self.numbers.insert(key, number)?;
-        Ok(number)
-    }
-
-    /// The number of a type whose parts have these numbers.
-    fn number_of_parts(&mut self, used: Used, parts: &[usize]) -> Result<usize, ShowFault> {
-        let Some(node) = self.node(used.place) else {
-            return Ok(0);
-        };
-        let shape = shape_of(self.alloc, node, used, parts)?;
-        Ok(self.shapes.number(shape.as_str())?)
-    }
-
-    /// A name that no file can have.
-    pub(crate) fn make_name(&mut self) -> Name<'a> {
-        let number = self.made;
-        self.made = number.saturating_add(1);
-        Name::Made(number)
+    /// Adds a number.
+    pub(crate) fn put_number(&mut self, number: usize) -> Result<(), ShowFault> {
+        self.page.put_number(number)
     }
 
     /// Adds a name.
-    pub(crate) fn put_name(&mut self, name: Name<'a>) -> Result<(), ShowFault> {
+    pub(crate) fn put_name(&mut self, name: Name<'_>) -> Result<(), ShowFault> {
         match name {
             Name::Given(label) => self.put_label(label),
             Name::Made(number) => {
-                self.page.put("#")?;
-                self.page.put_number(number)
+                self.put("#")?;
+                self.put_number(number)
             }
         }
     }
@@ -119,13 +68,13 @@ impl<'a> Writer<'a> {
     /// Adds a label, which a `%` begins where it is a keyword (WIT.md, "Identifiers").
     pub(crate) fn put_label(&mut self, label: &str) -> Result<(), ShowFault> {
         if Keyword::of_word(label.as_bytes()).is_some() {
-            self.page.put("%")?;
+            self.put("%")?;
         }
-        self.page.put(label)
+        self.put(label)
     }
 
     /// Adds what the name of an import, an export or an item says.
-    pub(crate) fn put_form(&mut self, form: ExternNameForm<'a>) -> Result<(), ShowFault> {
+    pub(crate) fn put_form(&mut self, form: ExternNameForm<'_>) -> Result<(), ShowFault> {
         match form {
             ExternNameForm::Label(label) => self.put_label(label),
             ExternNameForm::Method { resource, method } => {
@@ -155,9 +104,100 @@ impl<'a> Writer<'a> {
     /// Adds texts, one behind the other.
     pub(crate) fn put_all(&mut self, texts: &[&str]) -> Result<(), ShowFault> {
         for text in texts {
-            self.page.put(text)?;
+            self.put(text)?;
         }
         Ok(())
+    }
+
+    /// Adds what stands before a member of a list, from 0.
+    pub(crate) fn separate(&mut self, index: usize) -> Result<(), ShowFault> {
+        if index == 0 {
+            return Ok(());
+        }
+        self.put(", ")
+    }
+}
+
+impl<'a> Writer<'a> {
+    /// An empty text, over these types.
+    pub(crate) fn new(alloc: Global, types: &'a Types) -> Result<Writer<'a>, ShowFault> {
+        let lasts = last_resources(alloc, types)?;
+        let book = Book {
+            page: Page::new(alloc),
+            lasts,
+            numbers: BTreeMap::new(alloc),
+            shapes: TextNumbers::new(alloc),
+            made: 0,
+        };
+        Ok(Writer {
+            alloc,
+            types,
+            book,
+            homes: BTreeMap::new(alloc),
+        })
+    }
+
+    /// The node of a type.
+    pub(crate) fn node(&self, place: usize) -> Option<&'a TypeNode> {
+        let types = self.types;
+        if place < types.len() {
+            Some(types.node(place))
+        } else {
+            None
+        }
+    }
+
+    /// The places of a type's parts.
+    pub(crate) fn parts(&self, place: usize) -> &'a [usize] {
+        let types = self.types;
+        if place < types.len() {
+            types.parts(place)
+        } else {
+            &[]
+        }
+    }
+
+    /// What a type is named by.
+    pub(crate) fn keys(&mut self, used: Used) -> Result<TypeKeys, ShowFault> {
+        Ok(TypeKeys {
+            own: used.key(&self.book.lasts),
+            equal: Key::Equal(self.number(used)?),
+        })
+    }
+
+    /// The number of a type: equal exactly where types are equal. What it holds costs its own
+    /// length once for each way in which its resources are counted.
+    fn number(&mut self, used: Used) -> Result<usize, ShowFault> {
+        let key = used.key(&self.book.lasts);
+        if let Some(number) = self.book.numbers.get(&key) {
+            return Ok(*number);
+        }
+        let mut parts = Vec::new(self.alloc);
+        for part in self.parts(used.place) {
+            if *part < used.place {
+                let number = self.number(used.at(*part))?;
+                parts.push(number)?;
+            }
+        }
+        let number = self.number_of_parts(used, &parts)?;
+        self.book.numbers.insert(key, number)?;
+        Ok(number)
+    }
+
+    /// The number of a type whose parts have these numbers.
+    fn number_of_parts(&mut self, used: Used, parts: &[usize]) -> Result<usize, ShowFault> {
+        let Some(node) = self.node(used.place) else {
+            return Ok(0);
+        };
+        let shape = shape_of(self.alloc, node, used, parts)?;
+        Ok(self.book.shapes.number(shape.as_str())?)
+    }
+
+    /// A name that no file can have.
+    pub(crate) fn make_name(&mut self) -> Name<'a> {
+        let number = self.book.made;
+        self.book.made = number.saturating_add(1);
+        Name::Made(number)
     }
 
     /// A type that is declared under a name in a scope has it there, and its home if it has none.
@@ -221,15 +261,15 @@ impl<'a> Writer<'a> {
         there: Name<'a>,
         here: Name<'a>,
     ) -> Result<(), ShowFault> {
-        self.put_all(&[margin, "use "])?;
-        self.put_form(instance)?;
-        self.page.put(".{")?;
-        self.put_name(there)?;
+        self.book.put_all(&[margin, "use "])?;
+        self.book.put_form(instance)?;
+        self.book.put(".{")?;
+        self.book.put_name(there)?;
         if !is_same(there, here) {
-            self.page.put(" as ")?;
-            self.put_name(here)?;
+            self.book.put(" as ")?;
+            self.book.put_name(here)?;
         }
-        self.page.put("};\n")
+        self.book.put("};\n")
     }
 }
 

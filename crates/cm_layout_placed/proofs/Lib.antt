@@ -1,4 +1,4 @@
 mod FirstLaws
 mod PlacedLaws
-mod ReplacedLaws
+pub mod ReplacedLaws
 mod KindLaws

@@ -15,7 +15,7 @@ pub fields_by : (s : Standing) (fs : Fields) → field_types (replaced_fields s 
 fields_by s no_fields = refl
 fields_by s (field l t fs) = ap (λ ts. replaced s t ∷ ts) (fields_by s fs)
 
-payloads_by : (s : Standing) (cs : Cases) → payload_types (replaced_cases s cs) ≡ map (replaced s) (payload_types cs)
+pub payloads_by : (s : Standing) (cs : Cases) → payload_types (replaced_cases s cs) ≡ map (replaced s) (payload_types cs)
 payloads_by s no_cases = refl
 payloads_by s (plain l cs) = payloads_by s cs
 payloads_by s (carrying l t cs) = ap (λ ts. replaced s t ∷ ts) (payloads_by s cs)

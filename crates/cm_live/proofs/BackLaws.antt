@@ -20,13 +20,13 @@ use Rattle.cm_abi_model.specs.declared.request.Request.{Request}
 use Rattle.cm_machine.specs.cm_machine_model.Memories.{memory_at}
 use Rattle.cm_machine.specs.cm_machine_model.Plan.{types_of}
 use Rattle.cm_machine.specs.cm_machine_model.State.{State}
-use Rattle.cm_machine.specs.cm_machine_told.Causes.{HaveKinds, one_number}
-use Rattle.cm_machine.specs.cm_machine_told.Doing.{Asked, BodyReturn, LoweredCall, with_answer}
-use Rattle.cm_machine.specs.cm_machine_told.Entries.{answered_by}
-use Rattle.cm_machine.specs.cm_machine_told.MemoryChanges.{HandsResult}
-use Rattle.cm_machine.specs.cm_machine_told.Told.{AsksFor, WasReturned, answered_before}
-use Rattle.cm_machine.specs.cm_machine_told.Told.{answers_back, answers_in, met_at_return}
-use Rattle.cm_machine.specs.cm_machine_told.Told.{result_place_of, returned_requests, returner_view}
+use Rattle.cm_machine.specs.cm_machine_laws.Causes.{HaveKinds, one_number}
+use Rattle.cm_machine.specs.cm_machine_laws.Doing.{Asked, BodyReturn, LoweredCall, with_answer}
+use Rattle.cm_machine.specs.cm_machine_laws.Entries.{answered_by}
+use Rattle.cm_machine.specs.cm_machine_laws.MemoryChanges.{HandsResult}
+use Rattle.cm_machine.specs.cm_machine_laws.Told.{AsksFor, WasReturned, answered_before}
+use Rattle.cm_machine.specs.cm_machine_laws.Told.{answers_back, answers_in, met_at_return}
+use Rattle.cm_machine.specs.cm_machine_laws.Told.{result_place_of, returned_requests, returner_view}
 use Rattle.cm_live.specs.Rooms.{rooms_of, with_place}
 use Rattle.cm_live.specs.Told.{result_of}
 use Rattle.cm_live.proofs.CallsLaws.{region_by}

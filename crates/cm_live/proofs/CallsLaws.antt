@@ -14,13 +14,13 @@ use Rattle.cm_machine.specs.cm_machine_model.Events.{is_last}
 use Rattle.cm_machine.specs.cm_machine_model.Plan.{CoreFunc, Link, Plan, drops, guest, lowered, makes}
 use Rattle.cm_machine.specs.cm_machine_model.Plan.{represents}
 use Rattle.cm_machine.specs.cm_machine_model.State.{State}
-use Rattle.cm_machine.specs.cm_machine_told.Answers.{AnswersCall, AnswersReturn, IsAnswerTo, Traps}
-use Rattle.cm_machine.specs.cm_machine_told.Doing.{BodyReturn, Doing, LoweredCall, after_call, after_move}
-use Rattle.cm_machine.specs.cm_machine_told.Doing.{after_return, body, destroys}
-use Rattle.cm_machine.specs.cm_machine_told.Doing.{handing, lowered_call, placing, root, tidying}
+use Rattle.cm_machine.specs.cm_machine_laws.Answers.{AnswersCall, AnswersReturn, IsAnswerTo, Traps}
+use Rattle.cm_machine.specs.cm_machine_laws.Doing.{BodyReturn, Doing, LoweredCall, after_call, after_move}
+use Rattle.cm_machine.specs.cm_machine_laws.Doing.{after_return, body, destroys}
+use Rattle.cm_machine.specs.cm_machine_laws.Doing.{handing, lowered_call, placing, root, tidying}
 use Rattle.cm_machine.specs.cm_machine_model.Plan.{core_func_at, types_of}
-use Rattle.cm_machine.specs.cm_machine_told.Causes.{HaveKinds, passed_kinds}
-use Rattle.cm_machine.specs.cm_machine_told.Told.{args_kinds}
+use Rattle.cm_machine.specs.cm_machine_laws.Causes.{HaveKinds, passed_kinds}
+use Rattle.cm_machine.specs.cm_machine_laws.Told.{args_kinds}
 use Rattle.cm_abi_model.specs.Numbers.{slot_at}
 use Rattle.cm_abi_model.specs.Requests.{is_spilled, tuple_of}
 use Rattle.cm_abi_model.specs.Views.{results}

@@ -21,27 +21,27 @@ use Rattle.cm_machine.specs.cm_machine_model.Plan.{Plan}
 use Rattle.cm_machine.specs.cm_machine_model.Stack.{actor, top_of}
 use Rattle.cm_machine.specs.cm_machine_model.State.{State}
 use Rattle.cm_machine.specs.cm_machine_set.Running.{GoesOnFrom, IsNew, RunningSet}
-use Rattle.cm_machine.specs.cm_machine_told.Acting.{acts}
-use Rattle.cm_machine.specs.cm_machine_told.Always.{Always}
-use Rattle.cm_machine.specs.cm_machine_told.Answers.{EventAnswersItsMove, IsAnswerTo, Traps}
-use Rattle.cm_machine.specs.cm_machine_told.Asks.{AsksAt, AsksForWhatTheValueWants}
-use Rattle.cm_machine.specs.cm_machine_told.Doing.{BodyReturn, Doing, body, destroys, doing, handing}
-use Rattle.cm_machine.specs.cm_machine_told.Doing.{placing, root, tidying}
-use Rattle.cm_machine.specs.cm_machine_told.Entries.{Enters, ReceivesWhatWasSent}
-use Rattle.cm_machine.specs.cm_machine_told.Going.{ActsAsTold, BeginsByCall}
-use Rattle.cm_machine.specs.cm_machine_told.Going.{BeginsWhereNothingGoesOn, EndsWhereNothingGoesOn}
-use Rattle.cm_machine.specs.cm_machine_told.MemoryChanges.{ChangesAsTold, ChangesAtEnd}
-use Rattle.cm_machine.specs.cm_machine_told.MemoryChanges.{ChangesAtEntry}
-use Rattle.cm_machine.specs.cm_machine_told.MemoryChanges.{MemoryChangesByMovesAndValues, OthersStay}
-use Rattle.cm_machine.specs.cm_machine_told.MemoryChanges.{SameMemories}
+use Rattle.cm_machine.specs.cm_machine_laws.Acting.{acts}
+use Rattle.cm_machine.specs.cm_machine_laws.Always.{Always}
+use Rattle.cm_machine.specs.cm_machine_laws.Answers.{EventAnswersItsMove, IsAnswerTo, Traps}
+use Rattle.cm_machine.specs.cm_machine_laws.Asks.{AsksAt, AsksForWhatTheValueWants}
+use Rattle.cm_machine.specs.cm_machine_laws.Doing.{BodyReturn, Doing, body, destroys, doing, handing}
+use Rattle.cm_machine.specs.cm_machine_laws.Doing.{placing, root, tidying}
+use Rattle.cm_machine.specs.cm_machine_laws.Entries.{Enters, ReceivesWhatWasSent}
+use Rattle.cm_machine.specs.cm_machine_laws.Going.{ActsAsTold, BeginsByCall}
+use Rattle.cm_machine.specs.cm_machine_laws.Going.{BeginsWhereNothingGoesOn, EndsWhereNothingGoesOn}
+use Rattle.cm_machine.specs.cm_machine_laws.MemoryChanges.{ChangesAsTold, ChangesAtEnd}
+use Rattle.cm_machine.specs.cm_machine_laws.MemoryChanges.{ChangesAtEntry}
+use Rattle.cm_machine.specs.cm_machine_laws.MemoryChanges.{MemoryChangesByMovesAndValues, OthersStay}
+use Rattle.cm_machine.specs.cm_machine_laws.MemoryChanges.{SameMemories}
 use Rattle.cm_validate_model.specs.Spaces.{Spaces}
-use Rattle.cm_machine.specs.cm_machine_told.Closing.{TrapsAtACause}
-use Rattle.cm_machine.specs.cm_machine_told.Doing.{after_move, after_post_return, body_return}
-use Rattle.cm_machine.specs.cm_machine_told.Doing.{with_answer}
-use Rattle.cm_machine.specs.cm_machine_told.Entries.{Resumes, ResumesWithWhatWasReturned}
-use Rattle.cm_machine.specs.cm_machine_told.Entries.{answered_by, return_by}
-use Rattle.cm_machine.specs.cm_machine_told.Told.{AsksFor, WasReturned, answered_before}
-use Rattle.cm_machine.specs.cm_machine_told.Told.{answers_back, returned_requests, returner_view}
+use Rattle.cm_machine.specs.cm_machine_laws.Closing.{TrapsAtACause}
+use Rattle.cm_machine.specs.cm_machine_laws.Doing.{after_move, after_post_return, body_return}
+use Rattle.cm_machine.specs.cm_machine_laws.Doing.{with_answer}
+use Rattle.cm_machine.specs.cm_machine_laws.Entries.{Resumes, ResumesWithWhatWasReturned}
+use Rattle.cm_machine.specs.cm_machine_laws.Entries.{answered_by, return_by}
+use Rattle.cm_machine.specs.cm_machine_laws.Told.{AsksFor, WasReturned, answered_before}
+use Rattle.cm_machine.specs.cm_machine_laws.Told.{answers_back, returned_requests, returner_view}
 use Rattle.cm_abi_model.specs.Overlap.{IsInOne}
 use Rattle.cm_abi_model.specs.Views.{results}
 use Rattle.cm_machine.specs.cm_machine_model.Plan.{types_of}
@@ -62,8 +62,8 @@ use Rattle.cm_live.specs.Kept.{rooms}
 use Rattle.cm_live.specs.Rooms.{IsAsking, asking_after_move, rooms_after_move, rooms_of}
 use Rattle.cm_live.specs.Rooms.{rooms_told, with_place}
 use Rattle.cm_live.specs.Told.{result_of}
-use Rattle.cm_machine.specs.cm_machine_told.Causes.{HaveKinds, one_number}
-use Rattle.cm_machine.specs.cm_machine_told.Doing.{Asked, LoweredCall}
+use Rattle.cm_machine.specs.cm_machine_laws.Causes.{HaveKinds, one_number}
+use Rattle.cm_machine.specs.cm_machine_laws.Doing.{Asked, LoweredCall}
 use Rattle.std.specs.Prelude.{⊤}
 use Rattle.cm_live.specs.declared.answer.Written.{Written}
 use Rattle.cm_live.proofs.CallsLaws.{follows, kept_call, kept_move, same_places}

@@ -14,18 +14,18 @@ use Rattle.cm_abi_model.specs.Regions.{IsIn}
 use Rattle.cm_abi_model.specs.declared.region.Region.{Region}
 use Rattle.cm_abi_model.specs.declared.request.Request.{Request}
 use Rattle.cm_live.specs.declared.goings_on.Asking.{Asking}
-use Rattle.cm_machine.specs.cm_machine_told.Doing.{BodyReturn, after_call, after_move, after_return, core_func_by_index, lowered_call}
-use Rattle.cm_machine.specs.cm_machine_told.Answers.{AnswersCall, AnswersReturn, IsAnswerTo}
+use Rattle.cm_machine.specs.cm_machine_laws.Doing.{BodyReturn, after_call, after_move, after_return, core_func_by_index, lowered_call}
+use Rattle.cm_machine.specs.cm_machine_laws.Answers.{AnswersCall, AnswersReturn, IsAnswerTo}
 use Rattle.cm_machine.specs.cm_machine_model.declared.event.Event.{Event}
 use Rattle.cm_machine.specs.cm_machine_model.declared.moves.Move.{Move}
 use Rattle.cm_machine.specs.cm_machine_model.declared.moves.Move.TheVariants as move
 use Rattle.cm_machine.specs.cm_machine_model.Events.{is_last}
 use Rattle.cm_machine.specs.cm_machine_model.State.{State}
-use Rattle.cm_machine.specs.cm_machine_told.Doing.{Asked, Doing, LoweredCall, below, body, destroys, handing, placing, root, tidying, with_answer}
+use Rattle.cm_machine.specs.cm_machine_laws.Doing.{Asked, Doing, LoweredCall, below, body, destroys, handing, placing, root, tidying, with_answer}
 use Rattle.cm_live.specs.Rooms.{asking_by, older, rooms_of}
-use Rattle.cm_machine.specs.cm_machine_told.Told.{AsksFor, answers_in, met_at_call, one_answer, realloc_values}
-use Rattle.cm_machine.specs.cm_machine_told.Told.{sent_requests}
-use Rattle.cm_machine.specs.cm_machine_told.Causes.{MayCall}
+use Rattle.cm_machine.specs.cm_machine_laws.Told.{AsksFor, answers_in, met_at_call, one_answer, realloc_values}
+use Rattle.cm_machine.specs.cm_machine_laws.Told.{sent_requests}
+use Rattle.cm_machine.specs.cm_machine_laws.Causes.{MayCall}
 use Rattle.cm_live.specs.Rooms.{AllMayCall, AreAsked, IsAsking, asking_after_move, asking_by_event, rooms_after_move, rooms_answered, rooms_left}
 use Rattle.cm_live.specs.Playing.{calls_of}
 use Rattle.cm_live.specs.Rooms.{rooms_told, told_by_return, with_place}
@@ -33,11 +33,11 @@ use Rattle.cm_live.specs.Told.{entered, result_of, told_by}
 use Rattle.cm_machine.specs.cm_machine_model.declared.event.Event.TheVariants as event
 use Rattle.std.specs.declared.alloc.Global.{Global}
 use Rattle.std.specs.declared.vec.Vec.{Vec}
-use Rattle.cm_machine.specs.cm_machine_told.Answers.{Traps}
-use Rattle.cm_machine.specs.cm_machine_told.Asks.{AsksAt}
-use Rattle.cm_machine.specs.cm_machine_told.Entries.{Enters}
-use Rattle.cm_machine.specs.cm_machine_told.MemoryChanges.{ChangesAtEntry, HandsArgs}
-use Rattle.cm_machine.specs.cm_machine_told.Told.{WasSent, sender_view, sent_slots}
+use Rattle.cm_machine.specs.cm_machine_laws.Answers.{Traps}
+use Rattle.cm_machine.specs.cm_machine_laws.Asks.{AsksAt}
+use Rattle.cm_machine.specs.cm_machine_laws.Entries.{Enters}
+use Rattle.cm_machine.specs.cm_machine_laws.MemoryChanges.{ChangesAtEntry, HandsArgs}
+use Rattle.cm_machine.specs.cm_machine_laws.Told.{WasSent, sender_view, sent_slots}
 use Rattle.cm_machine.specs.cm_machine_model.Memories.{memory_at}
 use Rattle.cm_abi_model.specs.Denotes.{Denotes}
 use Rattle.cm_abi_model.specs.Views.{View, Way}

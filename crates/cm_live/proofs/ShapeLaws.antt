@@ -21,11 +21,11 @@ use Rattle.cm_machine.specs.cm_machine_model.Events.{is_last}
 use Rattle.cm_machine.specs.cm_machine_model.Plan.{CoreFunc, Plan, core_func_at, drops, guest, lowered}
 use Rattle.cm_machine.specs.cm_machine_model.Plan.{makes, represents}
 use Rattle.cm_machine.specs.cm_machine_model.State.{State}
-use Rattle.cm_machine.specs.cm_machine_told.Causes.{CallCause, Cause, HaveKinds, IsFirst, call_order}
-use Rattle.cm_machine.specs.cm_machine_told.Causes.{MayFindNoMemory, call_order_behind, one_number}
-use Rattle.cm_machine.specs.cm_machine_told.Causes.{order, passed_kinds}
-use Rattle.cm_machine.specs.cm_machine_told.Doing.{Doing, body, destroys, handing, placing, root}
-use Rattle.cm_machine.specs.cm_machine_told.Doing.{tidying}
+use Rattle.cm_machine.specs.cm_machine_laws.Causes.{CallCause, Cause, HaveKinds, IsFirst, call_order}
+use Rattle.cm_machine.specs.cm_machine_laws.Causes.{MayFindNoMemory, call_order_behind, one_number}
+use Rattle.cm_machine.specs.cm_machine_laws.Causes.{order, passed_kinds}
+use Rattle.cm_machine.specs.cm_machine_laws.Doing.{Doing, body, destroys, handing, placing, root}
+use Rattle.cm_machine.specs.cm_machine_laws.Doing.{tidying}
 use Rattle.cm_live.specs.Calls.{number_of}
 
 -- ---- kinds

@@ -108,8 +108,8 @@ do_more linked rec s t u (x ∷ ls) l d h a =
 
 -- an answer that was not written, or not all of it
 unwritten : (s : RunningSet) (r : Reply) → (bytes : List ℕ) × IsAnswerOf s r bytes
-unwritten s (unread f) = (codes "error: " ++ [] ++ codes "\n", ([], refl))
-unwritten s (refused t f) = (codes "error: " ++ [] ++ codes "\n", ([], refl))
+unwritten s (unread f) = (codes "error: " ++ [] ++ codes "\n", ([], tt, refl))
+unwritten s (refused t f) = (codes "error: " ++ [] ++ codes "\n", ([], tt, refl))
 unwritten s (done t a) = (answer_lines s.state a, refl)
 
 answers_more : (ls : List ServedLine) (l : ServedLine)

@@ -15,7 +15,7 @@ use Rattle.cm_machine.specs.cm_machine_model.declared.moves.Move.{Move}
 use Rattle.cm_machine.specs.cm_machine_model.declared.moves.Move.TheVariants as move
 use Rattle.cm_machine.specs.cm_machine_model.Events.{is_last}
 use Rattle.cm_machine.specs.cm_machine_model.Plan.{CoreFunc, Plan, core_func_at, lowered, types_of}
-use Rattle.cm_machine.specs.cm_machine_told.Told.{args_kinds}
+use Rattle.cm_machine.specs.cm_machine_laws.Told.{args_kinds}
 use Rattle.cm_live.specs.declared.goings_on.Call.{Call}
 use Rattle.cm_live.specs.declared.goings_on.GoingsOn.{GoingsOn}
 

@@ -1,8 +1,8 @@
 -- The lines of answers (this project's own choice).
-use Rattle.std.specs.Prelude.{◌≡◌, ℕ, ◌+◌, List, [], ◌∷◌, ◌++◌, codes, drop, if◌then◌else◌}
+use Rattle.std.specs.Prelude.{◌≡◌, ◌≢◌, ℕ, ◌+◌, List, [], ◌∷◌, ◌++◌, codes, drop, if◌then◌else◌}
 use Rattle.std.specs.Prelude.{length, nat_le, take}
 use Rattle.std.specs.Fmt.{decimal}
-use Rattle.std.specs.List.{flat_map}
+use Rattle.std.specs.List.{AllByRecursion, flat_map}
 use Rattle.hex.specs.Hex.{encode_lower}
 use Rattle.cm_abi_model.specs.declared.region.Region.{Region}
 use Rattle.cm_machine.specs.cm_machine_model.Memories.{memory_at}
@@ -35,6 +35,11 @@ answer_lines s (answer.Told written e) =
     region_lines written.instance written.regions.items (memory_at s.memories written.instance)
     ++ event_line e
 
+-- a text with no line feed in it
+abbrev pub IsOneLine : List ℕ → Type 0
+IsOneLine text = AllByRecursion (λ b. b ≢ 10) text
+
 -- the line of a refusal: one that begins so
 abbrev pub IsErrorLine : List ℕ → Type 0
-IsErrorLine bytes = (text : List ℕ) × (bytes ≡ codes "error: " ++ text ++ codes "\n")
+IsErrorLine bytes =
+    (text : List ℕ) × IsOneLine text × (bytes ≡ codes "error: " ++ text ++ codes "\n")

@@ -11,8 +11,8 @@ use Rattle.cm_machine.specs.cm_machine_model.Memories.{memory_at}
 use Rattle.cm_machine.specs.cm_machine_model.Stack.{actor, top_of}
 use Rattle.cm_machine.specs.cm_machine_model.State.{State}
 use Rattle.cm_machine.specs.cm_machine_set.Running.{RunningSet}
-use Rattle.cm_machine.specs.cm_machine_told.MemoryChanges.{GrowsExactly, OthersStay, SameMemories}
-use Rattle.cm_machine.specs.cm_machine_told.MemoryChanges.{WritesExactly}
+use Rattle.cm_machine.specs.cm_machine_laws.MemoryChanges.{GrowsExactly, OthersStay, SameMemories}
+use Rattle.cm_machine.specs.cm_machine_laws.MemoryChanges.{WritesExactly}
 use Rattle.cm_tool_script.specs.declared.statement.Statement.{Statement}
 use Rattle.cm_tool_script.specs.declared.statement.Statement.TheVariants as statement
 use Rattle.cm_live.specs.declared.answer.Answer.{Answer}

@@ -6,8 +6,8 @@ use Rattle.cm_machine_links.specs.Planning.{IsPlanOf}
 use Rattle.cm_machine.specs.cm_machine_model.History.{IsHistoryOf, Occurrence}
 use Rattle.cm_machine.specs.cm_machine_model.Plan.{Plan}
 use Rattle.cm_machine.specs.cm_machine_set.Running.{RunningSet}
-use Rattle.cm_machine.specs.cm_machine_told.Doing.{Doing, below, body, destroys, doing, handing}
-use Rattle.cm_machine.specs.cm_machine_told.Doing.{placing, root, tidying}
+use Rattle.cm_machine.specs.cm_machine_laws.Doing.{Doing, below, body, destroys, doing, handing}
+use Rattle.cm_machine.specs.cm_machine_laws.Doing.{placing, root, tidying}
 use Rattle.cm_live.specs.Calls.{calls}
 use Rattle.cm_live.specs.Kept.{rooms}
 use Rattle.cm_live.specs.Rooms.{AllMayCall, IsAsking}

@@ -7,8 +7,8 @@ use Rattle.cm_machine.specs.cm_machine_model.declared.event.Event.{Event}
 use Rattle.cm_machine.specs.cm_machine_model.declared.event.Event.TheVariants as event
 use Rattle.cm_machine.specs.cm_machine_model.declared.moves.Move.{Move}
 use Rattle.cm_machine.specs.cm_machine_model.declared.moves.Move.TheVariants as move
-use Rattle.cm_machine.specs.cm_machine_told.Causes.{MayCall}
-use Rattle.cm_machine.specs.cm_machine_told.Doing.{Asked, Doing, handing, placing}
+use Rattle.cm_machine.specs.cm_machine_laws.Causes.{MayCall}
+use Rattle.cm_machine.specs.cm_machine_laws.Doing.{Asked, Doing, handing, placing}
 use Rattle.cm_live.specs.Calls.{number_of}
 use Rattle.cm_live.specs.declared.goings_on.Asking.{Asking}
 use Rattle.cm_live.specs.declared.goings_on.Call.{Call}

@@ -16,9 +16,9 @@ use Rattle.cm_machine.specs.cm_machine_model.History.{IsHistoryOf, Occurrence, m
 use Rattle.cm_machine.specs.cm_machine_model.Plan.{Plan, types_of}
 use Rattle.cm_machine.specs.cm_machine_model.State.{State}
 use Rattle.cm_machine.specs.cm_machine_set.Running.{RunningSet}
-use Rattle.cm_machine.specs.cm_machine_told.Doing.{Doing, LoweredCall, body, doing, handing}
-use Rattle.cm_machine.specs.cm_machine_told.Doing.{with_answer}
-use Rattle.cm_machine.specs.cm_machine_told.Told.{is_by_memory, result_place_of}
+use Rattle.cm_machine.specs.cm_machine_laws.Doing.{Doing, LoweredCall, body, doing, handing}
+use Rattle.cm_machine.specs.cm_machine_laws.Doing.{with_answer}
+use Rattle.cm_machine.specs.cm_machine_laws.Told.{is_by_memory, result_place_of}
 use Rattle.cm_live.specs.Rooms.{rooms_of, with_place}
 use Rattle.cm_live.specs.declared.answer.Written.{Written}
 

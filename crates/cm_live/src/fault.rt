@@ -2,7 +2,7 @@
 
 ghost use Rattle.std.specs.Prelude.{◌≡◌, ℕ, List, OnOk};
 ghost use Rattle.std.specs.Io.KnownBytes.{Appends};
-ghost use Rattle.cm_live.specs.Lines.{IsErrorLine};
+ghost use Rattle.cm_live.specs.Lines.{IsErrorLine, IsOneLine};
 ghost use Rattle.cm_live.specs.declared.fault.LiveFault.TheVariants as fault;
 
 use arrayvec::ArrayString;
@@ -71,7 +71,17 @@ fn reason_of(fault: LiveFault, line: &[u8]) -> ArrayString<256> {
     reason
 }
 
-/// Writes why a line is refused; of one that is no statement also what was expected.
+/// What stands before the first line feed of a text, or all of it.
+fn first_line(text: &str) -> &str
+    ensures { IsOneLine result.now }
+{
+    match text.split_once('\n') {
+        Some((first, _)) => first,
+        None => text,
+    }
+}
+
+/// Writes why a line is refused, on one line; of one that is no statement also what was expected.
 pub(crate) fn write_refusal<W: Write>(
     writer: &mut W,
     fault: LiveFault,
@@ -81,6 +91,6 @@ pub(crate) fn write_refusal<W: Write>(
         × Appends (W.contents writer.old) (W.contents writer.new) bytes) }
 {
     let reason = reason_of(fault, line);
-    let reason = reason.as_str();
+    let reason = first_line(reason.as_str());
     writeln!(writer, "error: {reason}")
 }

@@ -6,7 +6,7 @@ ghost use Rattle.cm_machine.specs.cm_machine_model.declared.event.Event.TheVaria
 ghost use Rattle.cm_machine.specs.cm_machine_model.History.{begins, moves};
 ghost use Rattle.cm_machine.specs.cm_machine_model.Stack.{actor, top_of};
 ghost use Rattle.cm_machine.specs.cm_machine_set.Running.{GoesOnFrom, IsNew};
-ghost use Rattle.cm_machine.specs.cm_machine_told.MemoryChanges.{SameMemories};
+ghost use Rattle.cm_machine.specs.cm_machine_laws.MemoryChanges.{SameMemories};
 ghost use Rattle.cm_match.specs.Linked.{set_in};
 ghost use Rattle.cm_live.specs.Mirrors.{TellsNothing, TellsWhose};
 ghost use Rattle.cm_live.specs.Playing.{ArePlacesOf, IsPlayed};
@@ -74,7 +74,9 @@ impl<'c, 'a> Playing<'c, 'a> {
     }
 
     /// The instance whose move is next, or `None` where no call is on the stack.
-    pub(crate) fn acting(&self) -> Option<u32> {
+    pub(crate) fn acting(&self) -> Option<u32>
+        ensures { result ≡ option_map actor (top_of self.now.set.state.stack) }
+    {
         self.set.acting()
     }
 

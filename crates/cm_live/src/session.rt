@@ -1,7 +1,8 @@
 //! A linked set that is played statement by statement.
 
 ghost use Rattle.std.specs.Prelude.{◌≡◌, IfErr, IfOk, OnErr, slice_get};
-ghost use Rattle.std.specs.Option.{option_copied};
+ghost use Rattle.std.specs.Option.{option_copied, option_map};
+ghost use Rattle.cm_machine.specs.cm_machine_model.Stack.{actor, top_of};
 ghost use Rattle.cm_machine.specs.cm_machine_set.Running.{IsNew};
 ghost use Rattle.cm_match.specs.Linked.{set_in};
 ghost use Rattle.cm_live.specs.Mirrors.{KeepsMirrors};
@@ -39,7 +40,9 @@ impl<'c, 'a> Session<'c, 'a> {
     }
 
     /// The instance whose move is next, or `None` where no call is on the stack.
-    pub fn acting(&self) -> Option<u32> {
+    pub fn acting(&self) -> Option<u32>
+        ensures { result ≡ option_map actor (top_of (set_of self.now).state.stack) }
+    {
         self.playing.acting()
     }
 

@@ -1,4 +1,4 @@
-//! What an engine needs to instantiate the core modules of a component, in lines.
+//! Lines that tell an engine how to instantiate the core modules of a component.
 #![tactic(auto)]
 
 mod hex_text;

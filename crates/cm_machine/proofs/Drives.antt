@@ -148,7 +148,7 @@ plays_on plays start first old told s seats count p seen e mid after saw more x 
 
 -- ---- the last event of a list
 
-last_there : (first : Event) (told : List Event) → slice_get (first ∷ told) (length told) ≡ Some (last_of first told)
+pub last_there : (first : Event) (told : List Event) → slice_get (first ∷ told) (length told) ≡ Some (last_of first told)
 last_there first [] = refl
 last_there first (x ∷ xs) = last_there x xs
 

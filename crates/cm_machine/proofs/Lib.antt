@@ -1,3 +1,4 @@
 pub mod Drives
 pub mod Forgets
 pub mod Seats
+pub mod Watched

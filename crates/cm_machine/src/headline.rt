@@ -1,30 +1,30 @@
 //! What holds of every history of a linked set.
 
-ghost use Rattle.cm_machine_told.specs.Always.{Always};
-ghost use Rattle.cm_machine_told.specs.Answers.{EventAnswersItsMove};
-ghost use Rattle.cm_machine_told.specs.Asks.{AsksForWhatTheValueWants};
-ghost use Rattle.cm_machine_told.specs.Bounds.{KeepsFew};
-ghost use Rattle.cm_machine_told.specs.Closing.{NamesFaults, TrapHasItsCauseAndCloses};
-ghost use Rattle.cm_machine_told.specs.Closing.{TrapsAtACause};
-ghost use Rattle.cm_machine_told.specs.Entries.{PostReturnGetsTheFlatResult, ReceivesWhatWasSent};
-ghost use Rattle.cm_machine_told.specs.Entries.{ResumesWithWhatWasReturned};
-ghost use Rattle.cm_machine_told.specs.FreeIndices.{NextIndexIsTheLastFreed};
-ghost use Rattle.cm_machine_told.specs.Going.{ActsAsTold, BeginsByCall, BeginsWhereNothingGoesOn};
-ghost use Rattle.cm_machine_told.specs.Going.{ClosesByTraps, EndsWhereNothingGoesOn};
-ghost use Rattle.cm_machine_told.specs.Going.{NoneClosedActs};
-ghost use Rattle.cm_machine_told.specs.Going.{RefusesBegins, RunsExtend, StandsAsTold};
-ghost use Rattle.cm_machine_told.specs.Going.{StartsAlways};
-ghost use Rattle.cm_machine_told.specs.HandleChanges.{HandlesChangeByTheirMoves};
-ghost use Rattle.cm_machine_told.specs.Lent.{BorrowsStand, LendsStand};
-ghost use Rattle.cm_machine_told.specs.MemoryChanges.{MemoryChangesByMovesAndValues};
-ghost use Rattle.cm_machine_told.specs.Placed.{KeepsGone, EachResourceHasOnePlace};
+ghost use Rattle.cm_machine_laws.specs.Always.{Always};
+ghost use Rattle.cm_machine_laws.specs.Answers.{EventAnswersItsMove};
+ghost use Rattle.cm_machine_laws.specs.Asks.{AsksForWhatTheValueWants};
+ghost use Rattle.cm_machine_laws.specs.Bounds.{KeepsFew};
+ghost use Rattle.cm_machine_laws.specs.Closing.{NamesFaults, TrapHasItsCauseAndCloses};
+ghost use Rattle.cm_machine_laws.specs.Closing.{TrapsAtACause};
+ghost use Rattle.cm_machine_laws.specs.Entries.{PostReturnGetsTheFlatResult, ReceivesWhatWasSent};
+ghost use Rattle.cm_machine_laws.specs.Entries.{ResumesWithWhatWasReturned};
+ghost use Rattle.cm_machine_laws.specs.FreeIndices.{NextIndexIsTheLastFreed};
+ghost use Rattle.cm_machine_laws.specs.Going.{ActsAsTold, BeginsByCall, BeginsWhereNothingGoesOn};
+ghost use Rattle.cm_machine_laws.specs.Going.{ClosesByTraps, EndsWhereNothingGoesOn};
+ghost use Rattle.cm_machine_laws.specs.Going.{NoneClosedActs};
+ghost use Rattle.cm_machine_laws.specs.Going.{RefusesBegins, RunsExtend, StandsAsTold};
+ghost use Rattle.cm_machine_laws.specs.Going.{StartsAlways};
+ghost use Rattle.cm_machine_laws.specs.HandleChanges.{HandlesChangeByTheirMoves};
+ghost use Rattle.cm_machine_laws.specs.Lent.{BorrowsStand, LendsStand};
+ghost use Rattle.cm_machine_laws.specs.MemoryChanges.{MemoryChangesByMovesAndValues};
+ghost use Rattle.cm_machine_laws.specs.Placed.{KeepsGone, EachResourceHasOnePlace};
 
 use cm_machine_laws::handles::handles_change_as_told;
 use cm_machine_laws::memories::memory_changes_as_told;
 use cm_machine_laws::owners::owners_are_told;
+use cm_machine_laws::told_laws::what_goes_on;
 use cm_machine_laws::traps::traps_have_their_causes;
 use cm_machine_laws::values::values_are_passed;
-use cm_machine_told::laws::what_goes_on;
 
 /// The headline, a clause a sentence: for each set that can be linked, and each history of it from
 /// `Set::new` on, whatever the guests did. The clauses of `Set::new`, `Set::begin`, `Set::step`,

@@ -10,6 +10,8 @@ mod player;
 mod seeing;
 mod telling;
 mod turns;
+mod watcher;
+mod watching;
 
 pub use cm_machine_guests::{Bump, MoveQueue, Room, SeeingGuest, WithAllocator};
 pub use cm_machine_model::state::{Place, Work};
@@ -21,6 +23,7 @@ pub use cm_machine_parts::Outcome;
 pub use cm_machine_set::Set;
 pub use cm_match::{Checked, ExportEntry, LinkFault, LinkReason, Linked, PlanLine, link};
 pub use player::Player;
+pub use watcher::Watcher;
 
 /// What holds of every history of a set.
 pub mod laws {

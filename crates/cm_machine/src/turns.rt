@@ -26,7 +26,7 @@ fn ask_seat<G: SeeingGuest>(seat: &mut Option<G>, seen: &Event, memory: &[u8]) -
 }
 
 /// Asks the guest on an instance's seat; an empty or missing seat stops. No other seat changes.
-fn ask_one<G: SeeingGuest>(
+pub(crate) fn ask_one<G: SeeingGuest>(
     seats: &mut Vec<Option<G>>,
     instance: u32,
     seen: &Event,
@@ -47,7 +47,7 @@ fn ask_one<G: SeeingGuest>(
 }
 
 /// The bytes of an instance's memory, none where there is no such instance.
-fn memory_of(set: &Set, instance: u32) -> &[u8]
+pub(crate) fn memory_of(set: &Set, instance: u32) -> &[u8]
     ensures { result.now ≡ memory_at set.now.state.memories instance }
 {
     match set.memory(instance) {

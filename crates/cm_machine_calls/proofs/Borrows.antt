@@ -21,7 +21,7 @@ use Rattle.cm_machine_model.specs.State.{table_at}
 use Rattle.cm_machine_model.specs.Valid.{frame_at}
 use Rattle.cm_machine_model.specs.declared.frame.Frame.{Frame}
 use Rattle.cm_machine_parts.specs.Kept.{AreBorrowsCounted}
-use Rattle.cm_machine_valid.specs.Taking.{AreTaken}
+use Rattle.cm_machine_laws.specs.Taking.{AreTaken}
 
 -- ---- what handle tables promise
 

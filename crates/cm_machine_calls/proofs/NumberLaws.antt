@@ -39,7 +39,7 @@ use Rattle.cm_machine_model.specs.Stack.{below_top, top_of}
 use Rattle.cm_machine_model.specs.State.{Passage, State, table_at, view_of}
 use Rattle.cm_machine_model.specs.Step.{AreOf, Finishes, GoesOn, GoesOnBy, HandsOver, IsReceived, PassesArguments, PlacesResult, ReturnsResult, after_handing, after_lift, after_lift_of_args, after_lift_of_result, arg_slots, args_view, call_frame, given_to, in_phase, new_call, receiver_of, result_place, result_view, top_place}
 use Rattle.cm_machine_model.specs.Valid.{PassesAtTop, PassesFor, PassesIn}
-use Rattle.cm_machine_valid.specs.Taking.{AreThere}
+use Rattle.cm_machine_laws.specs.Taking.{AreThere}
 use Rattle.cm_machine_calls.proofs.KindLaws.{split_kinds}
 use Rattle.cm_machine_calls.proofs.Pairs.{set_back}
 use Rattle.cm_machine_calls.proofs.Standing.{passes_at}

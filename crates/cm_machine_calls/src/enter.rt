@@ -23,11 +23,11 @@ use crate::link::{put_phase, steps_of};
 use crate::numbers::enter_with_numbers;
 use crate::requests::go_on;
 use cm_abi::Way;
+use cm_machine_laws::valid_laws::what_a_value_owns_is_taken;
 use cm_machine_model::state::{Call, Frame, Phase, Purpose};
 use cm_machine_model::{Flat, Trap};
 use cm_machine_parts::laws::{calls_can_end, frames_have_instances, what_is_kept_stays};
 use cm_machine_parts::{Link, Outcome, State, actor, has_room, is_closed, may_leave};
-use cm_machine_valid::laws::what_a_value_owns_is_taken;
 use cm_types::CoreValue;
 use std::alloc::Global;
 

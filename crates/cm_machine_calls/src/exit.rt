@@ -34,11 +34,11 @@ use cm_abi_model::laws::{
     each_part_is_asked_for, what_is_handed_over_is_counted, what_is_met_stands,
 };
 use cm_handles::laws::borrows_are_counted;
+use cm_machine_laws::valid_laws::{what_a_value_owns_is_taken, what_is_met_is_the_values_handles};
 use cm_machine_model::state::{Call, Phase};
 use cm_machine_model::{Flat, Trap};
 use cm_machine_parts::laws::{calls_can_end, frames_have_instances, what_is_kept_stays};
 use cm_machine_parts::{Link, Outcome, State, are_of, end_call};
-use cm_machine_valid::laws::{what_a_value_owns_is_taken, what_is_met_is_the_values_handles};
 use cm_types::CoreValue;
 use std::alloc::Global;
 

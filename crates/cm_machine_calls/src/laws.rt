@@ -6,7 +6,7 @@ ghost use Rattle.cm_types.specs.Values.{HandleValue};
 ghost use Rattle.cm_handles.specs.Borrows.{borrows_of};
 ghost use Rattle.cm_handles.specs.Handles.{Handles, IsSoundHandles};
 ghost use Rattle.cm_abi_model.specs.Taken.{Met, after_met};
-ghost use Rattle.cm_machine_valid.specs.Taking.{AreTaken};
+ghost use Rattle.cm_machine_laws.specs.Taking.{AreTaken};
 
 use cm_handles::laws::borrows_are_counted;
 

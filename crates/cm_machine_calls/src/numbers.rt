@@ -29,11 +29,11 @@ use crate::exit::exit_call;
 use crate::traps::trap_of;
 use cm_abi_slots::laws::each_core_value_has_a_step;
 use cm_abi_slots::{SlotStep, pass_slots};
+use cm_machine_laws::valid_laws::what_is_met_is_the_values_handles;
 use cm_machine_model::state::{Call, Frame, Phase, Purpose};
 use cm_machine_model::{Flat, Trap};
 use cm_machine_parts::laws::{calls_can_end, frames_have_instances, what_is_kept_stays};
 use cm_machine_parts::{Link, Outcome, State, actor};
-use cm_machine_valid::laws::what_is_met_is_the_values_handles;
 use cm_types::CoreValue;
 
 /// Passes core values that are numbers alone by their steps, into `values`: what they denote is

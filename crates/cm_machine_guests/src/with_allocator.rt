@@ -31,8 +31,12 @@ pub struct WithAllocator<G> {
 }
 
 impl<G: SeeingGuest> WithAllocator<G> {
-    /// A guest that gives out these regions, and is `guest` in everything else.
-    pub fn new(alloc: Global, regions: Bump, guest: G) -> WithAllocator<G> {
+    /// A guest that gives out these regions, and is `guest` in everything else. No request waits.
+    pub fn new(alloc: Global, regions: Bump, guest: G) -> WithAllocator<G>
+        ensures regions { result.regions ≡ regions }
+        ensures waits { is_some result.waiting ≡ false }
+        ensures guest { result.guest ≡ guest }
+    {
         WithAllocator {
             alloc,
             regions,

@@ -36,9 +36,9 @@ use Rattle.cm_machine_model.specs.Passages.{IsAnswered, IsScanned, as_args, aske
 use Rattle.cm_machine_model.specs.Plan.{giver_side, receiver_side, types_of}
 use Rattle.cm_machine_model.specs.State.{Passage, State, table_at}
 use Rattle.cm_machine_model.specs.Step.{GoesOn, GoesOnBy, PlacesResult, ReturnsIn, ReturnsResult, UnlessNoMemory, UnlessWrong, after_lift_of_result, receiver_of, result_view, top_place, trap_of}
-use Rattle.cm_machine_told.specs.Causes.{BodyCause, PlaceCause, lift_traps}
-use Rattle.cm_machine_told.specs.Doing.{BodyReturn, LoweredCall}
-use Rattle.cm_machine_told.specs.Told.{WasReturned, answered_before, answers_back, is_by_memory, result_place_of, result_receiver, returned_leaves, returned_requests}
+use Rattle.cm_machine_laws.specs.Causes.{BodyCause, PlaceCause, lift_traps}
+use Rattle.cm_machine_laws.specs.Doing.{BodyReturn, LoweredCall}
+use Rattle.cm_machine_laws.specs.Told.{WasReturned, answered_before, answers_back, is_by_memory, result_place_of, result_receiver, returned_leaves, returned_requests}
 use Rattle.cm_machine_laws.proofs.AnswerRows.{FaultIs, IsFine, beyond, fault_is, fine_is, misaligned, received_not, within}
 use Rattle.cm_machine_laws.proofs.Judging.{Causing, Judged, check, check_behind, here_behind, memory, next_behind, passes, skip}
 use Rattle.cm_machine_laws.proofs.Lifting.{Laws, Only, leaves_want, lifts_judged, parts_want}

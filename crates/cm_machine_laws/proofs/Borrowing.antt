@@ -13,11 +13,11 @@ use Rattle.cm_machine_model.specs.Owning.{NoneDangles}
 use Rattle.cm_machine_model.specs.Plan.{Plan}
 use Rattle.cm_machine_model.specs.State.{State}
 use Rattle.cm_machine_model.specs.Valid.{IsValidState, frame_at}
-use Rattle.cm_machine_told.specs.Always.{Always}
-use Rattle.cm_machine_told.specs.Doing.{Doing, body, destroys, doing, handing, placing, root}
-use Rattle.cm_machine_told.specs.Doing.{tidying}
-use Rattle.cm_machine_told.specs.Lent.{BorrowsStand, RunsBody}
-use Rattle.cm_machine_told.specs.Matching.{AllMatch, MatchIn, MatchOne}
+use Rattle.cm_machine_laws.specs.Always.{Always}
+use Rattle.cm_machine_laws.specs.Doing.{Doing, body, destroys, doing, handing, placing, root}
+use Rattle.cm_machine_laws.specs.Doing.{tidying}
+use Rattle.cm_machine_laws.specs.Lent.{BorrowsStand, RunsBody}
+use Rattle.cm_machine_laws.specs.Matching.{AllMatch, MatchIn, MatchOne}
 use Rattle.cm_machine_laws.proofs.OnTheWay.{IsTold, StaysValid}
 
 abbrev pub NothingDangles : Type 0

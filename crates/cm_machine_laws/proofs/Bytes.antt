@@ -11,7 +11,7 @@ use Rattle.cm_machine_model.specs.declared.limits.TheConstants.{MAX_PAGES, PAGE_
 use Rattle.cm_machine_model.specs.Memories.{after_growth, after_write, memory_at, pages_of}
 use Rattle.cm_machine_model.specs.State.{State}
 use Rattle.cm_machine_model.specs.Step.{Fits}
-use Rattle.cm_machine_told.specs.MemoryChanges.{GrowsExactly, HasPages, OthersStay, WritesExactly}
+use Rattle.cm_machine_laws.specs.MemoryChanges.{GrowsExactly, HasPages, OthersStay, WritesExactly}
 use Rattle.cm_machine_model.proofs.MemoriesLaws.{memory_set}
 use Rattle.cm_lemmas.proofs.Numbers.{zero_at}
 

@@ -25,8 +25,8 @@ use Rattle.cm_machine_model.specs.Plan.{Plan}
 use Rattle.cm_machine_model.specs.State.{State, after_trap, closed_after_trap, place_after_trap}
 use Rattle.cm_machine_model.specs.State.{table_at, tables_after_trap, with_places}
 use Rattle.cm_machine_model.specs.Valid.{IsValidState}
-use Rattle.cm_machine_told.specs.Closing.{ClosesExactly, PlacesAfterTrap, place_left}
-use Rattle.cm_machine_valid.specs.Taking.{AreThere}
+use Rattle.cm_machine_laws.specs.Closing.{ClosesExactly, PlacesAfterTrap, place_left}
+use Rattle.cm_machine_laws.specs.Taking.{AreThere}
 use Rattle.cm_machine_laws.proofs.ClosedTables.{AreWithin, IsLeft, flags_closed}
 use Rattle.cm_machine_laws.proofs.ClosedTables.{get_set_other, instances_of}
 use Rattle.cm_machine_laws.proofs.ClosedTables.{lifted_left, set_length, tables_closed, tables_open}

@@ -16,7 +16,7 @@ use Rattle.cm_machine_model.specs.Owning.{IsAmong}
 use Rattle.cm_machine_model.specs.Plan.{Plan}
 use Rattle.cm_machine_model.specs.State.{closed_after_trap, table_at, tables_after_trap}
 use Rattle.cm_machine_model.specs.Valid.{IsStack}
-use Rattle.cm_machine_told.specs.Closing.{left_by, left_of}
+use Rattle.cm_machine_laws.specs.Closing.{left_by, left_of}
 use Rattle.cm_lemmas.proofs.Lists.{get_set_same}
 use Rattle.cm_machine_model.proofs.StateLaws.{table_same}
 

@@ -52,18 +52,18 @@ use Rattle.cm_machine_model.specs.Step.{Traps, UnlessWrong, Writes, after_handin
 use Rattle.cm_machine_model.specs.Step.{after_lift_of_result, arg_slots, args_view, new_call}
 use Rattle.cm_machine_model.specs.Step.{receiver_of, result_view, top_place, trap_of, trap_of_handle}
 use Rattle.cm_machine_model.specs.Valid.{IsStack, IsValidState}
-use Rattle.cm_machine_told.specs.CallsOn.{as_framed, callee_there, framed}
-use Rattle.cm_machine_told.specs.CallsOn.{IsBodyCall, body_call, handing_call, placing_call}
-use Rattle.cm_machine_told.specs.CallsOn.{tidying_call}
-use Rattle.cm_machine_told.specs.Closing.{ClosesAsItWas, ClosesAtCall, ClosesAtReturn, ClosesByCall}
-use Rattle.cm_machine_told.specs.Closing.{ClosesByReturn, ClosesExactly, ClosesWhatWentOn}
-use Rattle.cm_machine_told.specs.Closing.{ClosesWithCall, ClosesWithReturn}
-use Rattle.cm_machine_told.specs.Doing.{BodyReturn, Doing, LoweredCall, destroys, instance_of}
-use Rattle.cm_machine_told.specs.Doing.{root}
-use Rattle.cm_machine_told.specs.Frames.{instances, leaver_acts, match_length}
-use Rattle.cm_machine_told.specs.Matching.{AllMatch, MatchOne}
-use Rattle.cm_machine_told.specs.Told.{WasReturned, met_at_call, met_at_return}
-use Rattle.cm_machine_told.specs.Told.{returned_leaves, sent_leaves}
+use Rattle.cm_machine_laws.specs.CallsOn.{as_framed, callee_there, framed}
+use Rattle.cm_machine_laws.specs.CallsOn.{IsBodyCall, body_call, handing_call, placing_call}
+use Rattle.cm_machine_laws.specs.CallsOn.{tidying_call}
+use Rattle.cm_machine_laws.specs.Closing.{ClosesAsItWas, ClosesAtCall, ClosesAtReturn, ClosesByCall}
+use Rattle.cm_machine_laws.specs.Closing.{ClosesByReturn, ClosesExactly, ClosesWhatWentOn}
+use Rattle.cm_machine_laws.specs.Closing.{ClosesWithCall, ClosesWithReturn}
+use Rattle.cm_machine_laws.specs.Doing.{BodyReturn, Doing, LoweredCall, destroys, instance_of}
+use Rattle.cm_machine_laws.specs.Doing.{root}
+use Rattle.cm_machine_laws.specs.Frames.{instances, leaver_acts, match_length}
+use Rattle.cm_machine_laws.specs.Matching.{AllMatch, MatchOne}
+use Rattle.cm_machine_laws.specs.Told.{WasReturned, met_at_call, met_at_return}
+use Rattle.cm_machine_laws.specs.Told.{returned_leaves, sent_leaves}
 use Rattle.cm_machine_model.specs.Rows.{at, same_link}
 use Rattle.cm_machine_laws.proofs.BodyRows.{apart_before, no_answer, one_answer}
 use Rattle.cm_machine_laws.proofs.ClosedStates.{ClosingLaws, closes_as_was, closes_lifted, owned_made}

@@ -15,10 +15,10 @@ use Rattle.cm_machine_model.specs.declared.frame.Frame.{Frame}
 use Rattle.cm_machine_model.specs.Plan.{Plan}
 use Rattle.cm_machine_model.specs.State.{State}
 use Rattle.cm_machine_model.specs.Step.{AreOf, one_i32}
-use Rattle.cm_machine_told.specs.Causes.{MayCall}
-use Rattle.cm_machine_told.specs.Doing.{Asked, Doing, answer_of, body, destroys, handing, placing, root, tidying, with_answer}
-use Rattle.cm_machine_told.specs.Matching.{AllMatch}
-use Rattle.cm_machine_told.specs.Told.{AsksFor, answers_in, one_answer}
+use Rattle.cm_machine_laws.specs.Causes.{MayCall}
+use Rattle.cm_machine_laws.specs.Doing.{Asked, Doing, answer_of, body, destroys, handing, placing, root, tidying, with_answer}
+use Rattle.cm_machine_laws.specs.Matching.{AllMatch}
+use Rattle.cm_machine_laws.specs.Told.{AsksFor, answers_in, one_answer}
 use Rattle.cm_machine_laws.specs.Following.{AreBelow, AreFollowed, IsOneOpen}
 use Rattle.cm_lemmas.proofs.Lists.{length_push}
 

@@ -10,13 +10,13 @@ use Rattle.cm_machine_model.specs.Plan.{Plan}
 use Rattle.cm_machine_model.specs.Stack.{actor, top_of}
 use Rattle.cm_machine_model.specs.State.{State}
 use Rattle.cm_machine_model.specs.Valid.{IsValidState}
-use Rattle.cm_machine_told.specs.Acting.{acts}
-use Rattle.cm_machine_told.specs.Always.{Always}
-use Rattle.cm_machine_told.specs.Asks.{AsksAt, AsksForWhatTheValueWants}
-use Rattle.cm_machine_told.specs.Doing.{Doing, after_move, body, destroys, doing, goes_on, handing}
-use Rattle.cm_machine_told.specs.Doing.{placing, root, tidying}
-use Rattle.cm_machine_told.specs.Entries.{ReceivesWhatWasSent, PostReturnGetsTheFlatResult}
-use Rattle.cm_machine_told.specs.Matching.{AllMatch, AreTold}
+use Rattle.cm_machine_laws.specs.Acting.{acts}
+use Rattle.cm_machine_laws.specs.Always.{Always}
+use Rattle.cm_machine_laws.specs.Asks.{AsksAt, AsksForWhatTheValueWants}
+use Rattle.cm_machine_laws.specs.Doing.{Doing, after_move, body, destroys, doing, goes_on, handing}
+use Rattle.cm_machine_laws.specs.Doing.{placing, root, tidying}
+use Rattle.cm_machine_laws.specs.Entries.{ReceivesWhatWasSent, PostReturnGetsTheFlatResult}
+use Rattle.cm_machine_laws.specs.Matching.{AllMatch, AreTold}
 use Rattle.cm_machine_laws.specs.Following.{AreBelow, AreFollowed}
 use Rattle.cm_machine_laws.proofs.FollowCases.{SaysOf, follow_case}
 use Rattle.cm_machine_laws.proofs.ValueTurns.{OneCarried}

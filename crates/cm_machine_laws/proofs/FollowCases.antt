@@ -37,15 +37,15 @@ use Rattle.cm_machine_model.specs.Stack.{actor, actor_in, actor_of, below_top}
 use Rattle.cm_machine_model.specs.State.{Passage, State, after_trap, table_at, view_of}
 use Rattle.cm_machine_model.specs.Step.{MayLeave, after_handing, as_values, after_lift_of_args, after_lift_of_result, first_value, flat_result, given_to, in_phase, new_call, receiver_of, result_place, top_place, with_memory}
 use Rattle.cm_machine_model.specs.Valid.{IsValidState}
-use Rattle.cm_machine_told.specs.Causes.{MayCall}
-use Rattle.cm_machine_told.specs.Doing.{Asked, BodyReturn, Doing, LoweredCall, after_move, below, body, handing, lowered_call, placing, with_answer, with_body, with_placing}
-use Rattle.cm_machine_told.specs.Entries.{Enters, GivesBack, Tidies}
-use Rattle.cm_machine_told.specs.Matching.{AllMatch}
-use Rattle.cm_machine_told.specs.Told.{WasReturned, WasSent, answered_before, answers_back, answers_in, is_by_memory, result_place_of, returned_requests, sent_requests}
+use Rattle.cm_machine_laws.specs.Causes.{MayCall}
+use Rattle.cm_machine_laws.specs.Doing.{Asked, BodyReturn, Doing, LoweredCall, after_move, below, body, handing, lowered_call, placing, with_answer, with_body, with_placing}
+use Rattle.cm_machine_laws.specs.Entries.{Enters, GivesBack, Tidies}
+use Rattle.cm_machine_laws.specs.Matching.{AllMatch}
+use Rattle.cm_machine_laws.specs.Told.{WasReturned, WasSent, answered_before, answers_back, answers_in, is_by_memory, result_place_of, returned_requests, sent_requests}
 use Rattle.cm_machine_laws.specs.Following.{AreBelow, AreFollowed, IsHanding, IsKept, IsPlacing}
 use Rattle.cm_machine_laws.proofs.Follow.{answered_asks, answered_count, answered_in, answered_length, below_of, memory_kept, no_places, open_count, past_end, resumed, some_below, stays_followed}
-use Rattle.cm_machine_told.specs.CallsOn.{IsBodyCall, IsHandingCall, IsPlacingCall, body_call, handing_call, placing_call, tidying_call}
-use Rattle.cm_machine_told.specs.Frames.{match_length, may_call}
+use Rattle.cm_machine_laws.specs.CallsOn.{IsBodyCall, IsHandingCall, IsPlacingCall, body_call, handing_call, placing_call, tidying_call}
+use Rattle.cm_machine_laws.specs.Frames.{match_length, may_call}
 use Rattle.cm_machine_laws.proofs.GivenBack.{gives_back}
 use Rattle.std.proofs.lemmas.Option.{same_Some}
 use Rattle.cm_machine_laws.proofs.ValueTurns.{IsSettled, IsTurn, OneCarried, settled, turn}

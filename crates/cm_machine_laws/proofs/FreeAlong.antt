@@ -15,12 +15,12 @@ use Rattle.cm_machine_model.specs.Stack.{actor, top_of}
 use Rattle.cm_machine_model.specs.State.{State, fresh_state, table_at}
 use Rattle.cm_machine_model.specs.Step.{Step}
 use Rattle.cm_machine_model.specs.Valid.{IsValidState}
-use Rattle.cm_machine_told.specs.Acting.{acts}
-use Rattle.cm_machine_told.specs.Always.{Always}
-use Rattle.cm_machine_told.specs.Doing.{Doing, doing}
-use Rattle.cm_machine_told.specs.FreeIndices.{AreLeft, Free, NextIndexIsTheLastFreed, Use, UsesBy}
-use Rattle.cm_machine_told.specs.FreeIndices.{after_use, free_in, index_for, none_used}
-use Rattle.cm_machine_told.specs.Matching.{AllMatch, AreTold}
+use Rattle.cm_machine_laws.specs.Acting.{acts}
+use Rattle.cm_machine_laws.specs.Always.{Always}
+use Rattle.cm_machine_laws.specs.Doing.{Doing, doing}
+use Rattle.cm_machine_laws.specs.FreeIndices.{AreLeft, Free, NextIndexIsTheLastFreed, Use, UsesBy}
+use Rattle.cm_machine_laws.specs.FreeIndices.{after_use, free_in, index_for, none_used}
+use Rattle.cm_machine_laws.specs.Matching.{AllMatch, AreTold}
 use Rattle.cm_machine_laws.specs.Following.{AreFollowed}
 use Rattle.cm_machine_laws.proofs.Calls.{Laws}
 use Rattle.cm_machine_laws.proofs.FreeCases.{IsStepped, free_case}

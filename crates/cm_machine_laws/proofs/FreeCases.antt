@@ -43,18 +43,18 @@ use Rattle.cm_machine_model.specs.State.{tables_after_call}
 use Rattle.cm_machine_model.specs.Step.{after_lift_of_args, after_lift_of_result, as_values}
 use Rattle.cm_machine_model.specs.Step.{after_call, new_call, popped, receiver_of, top_place}
 use Rattle.cm_machine_model.specs.Valid.{IsStack, IsValidState}
-use Rattle.cm_machine_told.specs.CallsOn.{IsBodyCall, IsHandingCall, IsPlacingCall, as_framed}
-use Rattle.cm_machine_told.specs.CallsOn.{body_call, callee_apart, callee_there, caller_there}
-use Rattle.cm_machine_told.specs.CallsOn.{framed, handing_call, placing_call, tidying_call}
-use Rattle.cm_machine_told.specs.Doing.{BodyReturn, Doing, LoweredCall}
-use Rattle.cm_machine_told.specs.Frames.{actor_stands, frame_there, leaver_acts, match_length}
-use Rattle.cm_machine_told.specs.FreeIndices.{Adds, Frees, FreesAndAdds, Use, UsesAtCall}
-use Rattle.cm_machine_told.specs.FreeIndices.{UsesAtReturn, UsesBy, UsesByCall, UsesByMove}
-use Rattle.cm_machine_told.specs.FreeIndices.{UsesByReturn, UsesNone, after_freeing, after_use}
-use Rattle.cm_machine_told.specs.FreeIndices.{count_for, free_in, indices_of}
-use Rattle.cm_machine_told.specs.Matching.{AllMatch}
-use Rattle.cm_machine_told.specs.Told.{WasReturned, WasSent, args_receiver, met_at_call, met_at_return}
-use Rattle.cm_machine_told.specs.Told.{result_receiver, returned_leaves, sent_leaves}
+use Rattle.cm_machine_laws.specs.CallsOn.{IsBodyCall, IsHandingCall, IsPlacingCall, as_framed}
+use Rattle.cm_machine_laws.specs.CallsOn.{body_call, callee_apart, callee_there, caller_there}
+use Rattle.cm_machine_laws.specs.CallsOn.{framed, handing_call, placing_call, tidying_call}
+use Rattle.cm_machine_laws.specs.Doing.{BodyReturn, Doing, LoweredCall}
+use Rattle.cm_machine_laws.specs.Frames.{actor_stands, frame_there, leaver_acts, match_length}
+use Rattle.cm_machine_laws.specs.FreeIndices.{Adds, Frees, FreesAndAdds, Use, UsesAtCall}
+use Rattle.cm_machine_laws.specs.FreeIndices.{UsesAtReturn, UsesBy, UsesByCall, UsesByMove}
+use Rattle.cm_machine_laws.specs.FreeIndices.{UsesByReturn, UsesNone, after_freeing, after_use}
+use Rattle.cm_machine_laws.specs.FreeIndices.{count_for, free_in, indices_of}
+use Rattle.cm_machine_laws.specs.Matching.{AllMatch}
+use Rattle.cm_machine_laws.specs.Told.{WasReturned, WasSent, args_receiver, met_at_call, met_at_return}
+use Rattle.cm_machine_laws.specs.Told.{result_receiver, returned_leaves, sent_leaves}
 use Rattle.cm_machine_laws.specs.Following.{AreFollowed, IsHanding, IsPlacing}
 use Rattle.cm_machine_laws.proofs.Calls.{IsTurn, Laws, turn}
 use Rattle.cm_machine_laws.proofs.ClosedTables.{AreWithin, flags_closed, instances_of, tables_open}

@@ -14,9 +14,9 @@ use Rattle.cm_abi_model.specs.Taken.{Met, after_met, content, lent, taken, taken
 use Rattle.cm_machine_model.specs.declared.frame.Lend.{Lend}
 use Rattle.cm_machine_model.specs.State.{closed_after_trap, table_at, tables_after_call}
 use Rattle.cm_machine_model.specs.State.{tables_after_unlend}
-use Rattle.cm_machine_told.specs.FreeIndices.{Free, after_adding, after_freeing, after_one_added}
-use Rattle.cm_machine_told.specs.FreeIndices.{after_use, count_for, free_in, index_for, indices_of}
-use Rattle.cm_machine_told.specs.FreeIndices.{index_among}
+use Rattle.cm_machine_laws.specs.FreeIndices.{Free, after_adding, after_freeing, after_one_added}
+use Rattle.cm_machine_laws.specs.FreeIndices.{after_use, count_for, free_in, index_for, indices_of}
+use Rattle.cm_machine_laws.specs.FreeIndices.{index_among}
 use Rattle.cm_machine_model.specs.declared.frame.Frame.{Frame}
 use Rattle.cm_machine_laws.proofs.Tables.{set_length, table_other}
 use Rattle.cm_lemmas.proofs.Lists.{set_past}

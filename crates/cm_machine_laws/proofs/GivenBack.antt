@@ -33,7 +33,7 @@ use Rattle.cm_machine_model.specs.declared.frame.Lend.{Lend}
 use Rattle.cm_machine_model.specs.State.{State, table_at, tables_after_call, tables_after_unlend}
 use Rattle.cm_machine_model.specs.State.{view_of}
 use Rattle.cm_machine_model.specs.Step.{as_values, first_value}
-use Rattle.cm_machine_told.specs.Entries.{GivesBack}
+use Rattle.cm_machine_laws.specs.Entries.{GivesBack}
 use Rattle.cm_abi_model.proofs.RequestsLaws.{starts}
 use Rattle.cm_machine_model.proofs.StateLaws.{table_same}
 use Rattle.cm_handles.proofs.SoundHandles.{within_slots}

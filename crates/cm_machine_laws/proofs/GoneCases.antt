@@ -38,9 +38,9 @@ use Rattle.cm_machine_model.specs.State.{Passage, State, place_after_trap, table
 use Rattle.cm_machine_model.specs.Step.{after_lift_of_args, after_lift_of_result, arg_slots}
 use Rattle.cm_machine_model.specs.Step.{args_view, owners_given, result_view, top_place}
 use Rattle.cm_machine_model.specs.Valid.{IsValidState}
-use Rattle.cm_machine_told.specs.Always.{Always}
-use Rattle.cm_machine_told.specs.Placed.{KeepsGone, StaysGone}
-use Rattle.cm_machine_valid.specs.Taking.{AreThere}
+use Rattle.cm_machine_laws.specs.Always.{Always}
+use Rattle.cm_machine_laws.specs.Placed.{KeepsGone, StaysGone}
+use Rattle.cm_machine_laws.specs.Taking.{AreThere}
 use Rattle.cm_machine_laws.proofs.Gone.{IsFinal, IsLive, Keeps, keeps_both, keeps_given}
 use Rattle.cm_machine_laws.proofs.Gone.{keeps_push, keeps_same, keeps_set, keeps_trap}
 use Rattle.cm_machine_laws.proofs.Gone.{keeps_travel, live_travel}

@@ -47,22 +47,22 @@ use Rattle.cm_machine_model.specs.Step.{CanMake, after_call}
 use Rattle.cm_machine_model.specs.Step.{after_lift_of_args, after_lift_of_result, after_new}
 use Rattle.cm_machine_model.specs.Step.{new_call, popped, receiver_of, top_place, without_handle, as_values}
 use Rattle.cm_machine_model.specs.Valid.{IsStack, IsValidState}
-use Rattle.cm_machine_told.specs.Answers.{Traps}
-use Rattle.cm_machine_told.specs.CallsOn.{IsBodyCall, IsHandingCall, IsPlacingCall, body_call}
-use Rattle.cm_machine_told.specs.CallsOn.{handing_call, placing_call, tidying_call}
-use Rattle.cm_machine_told.specs.Doing.{BodyReturn, Doing, LoweredCall, destroys, root}
-use Rattle.cm_machine_told.specs.Frames.{actor_stands, frame_there, match_length}
-use Rattle.cm_machine_told.specs.HandleChanges.{AreGone, DropsAs, HandlesAtCall, HandlesAtReturn}
-use Rattle.cm_machine_told.specs.HandleChanges.{HandlesByCall, HandlesByMove, HandlesByReturn}
-use Rattle.cm_machine_told.specs.HandleChanges.{HandlesStay, StayBut, indices_given, DtorOf}
-use Rattle.cm_machine_told.specs.HandleChanges.{AreAdded, GetsArgs, GetsHandles, GetsResult}
-use Rattle.cm_machine_told.specs.HandleChanges.{OtherHandlesStay}
-use Rattle.cm_machine_told.specs.Matching.{AllMatch, MatchOne}
-use Rattle.cm_machine_told.specs.Told.{WasReturned, WasSent, args_receiver, met_at_call, met_at_return}
-use Rattle.cm_machine_told.specs.Told.{returner_view, sender_view, sent_slots, result_receiver, returned_leaves}
+use Rattle.cm_machine_laws.specs.Answers.{Traps}
+use Rattle.cm_machine_laws.specs.CallsOn.{IsBodyCall, IsHandingCall, IsPlacingCall, body_call}
+use Rattle.cm_machine_laws.specs.CallsOn.{handing_call, placing_call, tidying_call}
+use Rattle.cm_machine_laws.specs.Doing.{BodyReturn, Doing, LoweredCall, destroys, root}
+use Rattle.cm_machine_laws.specs.Frames.{actor_stands, frame_there, match_length}
+use Rattle.cm_machine_laws.specs.HandleChanges.{AreGone, DropsAs, HandlesAtCall, HandlesAtReturn}
+use Rattle.cm_machine_laws.specs.HandleChanges.{HandlesByCall, HandlesByMove, HandlesByReturn}
+use Rattle.cm_machine_laws.specs.HandleChanges.{HandlesStay, StayBut, indices_given, DtorOf}
+use Rattle.cm_machine_laws.specs.HandleChanges.{AreAdded, GetsArgs, GetsHandles, GetsResult}
+use Rattle.cm_machine_laws.specs.HandleChanges.{OtherHandlesStay}
+use Rattle.cm_machine_laws.specs.Matching.{AllMatch, MatchOne}
+use Rattle.cm_machine_laws.specs.Told.{WasReturned, WasSent, args_receiver, met_at_call, met_at_return}
+use Rattle.cm_machine_laws.specs.Told.{returner_view, sender_view, sent_slots, result_receiver, returned_leaves}
 use Rattle.cm_machine_laws.specs.Following.{AreFollowed, IsHanding, IsPlacing}
 use Rattle.cm_machine_laws.proofs.Calls.{IsTurn, Laws, turn}
-use Rattle.cm_machine_told.specs.CallsOn.{as_framed, callee_apart, callee_there, caller_there, framed}
+use Rattle.cm_machine_laws.specs.CallsOn.{as_framed, callee_apart, callee_there, caller_there, framed}
 use Rattle.cm_machine_laws.proofs.Found.{Stands, looked}
 use Rattle.cm_machine_laws.proofs.Tables.{added_stays, given_added}
 use Rattle.cm_machine_laws.proofs.Tables.{Adds, call_ends, changes_one, given_stays}

@@ -12,12 +12,12 @@ use Rattle.cm_machine_model.specs.Stack.{actor, top_of}
 use Rattle.cm_machine_model.specs.State.{State}
 use Rattle.cm_machine_model.specs.Step.{Step}
 use Rattle.cm_machine_model.specs.Valid.{IsValidState}
-use Rattle.cm_machine_told.specs.Acting.{acts}
-use Rattle.cm_machine_told.specs.Always.{Always}
-use Rattle.cm_machine_told.specs.Answers.{Traps}
-use Rattle.cm_machine_told.specs.Doing.{Doing, doing}
-use Rattle.cm_machine_told.specs.HandleChanges.{HandlesChangeByTheirMoves, HandlesByMove}
-use Rattle.cm_machine_told.specs.Matching.{AllMatch, AreTold}
+use Rattle.cm_machine_laws.specs.Acting.{acts}
+use Rattle.cm_machine_laws.specs.Always.{Always}
+use Rattle.cm_machine_laws.specs.Answers.{Traps}
+use Rattle.cm_machine_laws.specs.Doing.{Doing, doing}
+use Rattle.cm_machine_laws.specs.HandleChanges.{HandlesChangeByTheirMoves, HandlesByMove}
+use Rattle.cm_machine_laws.specs.Matching.{AllMatch, AreTold}
 use Rattle.cm_machine_laws.specs.Following.{AreFollowed}
 use Rattle.cm_machine_laws.proofs.Calls.{Laws}
 use Rattle.cm_machine_laws.proofs.HandleCases.{all_stay, handle_case}

@@ -9,7 +9,7 @@ use Rattle.cm_machine_model.specs.declared.event.Trap.{Trap}
 use Rattle.cm_machine_model.specs.declared.event.Trap.TheVariants as trap
 use Rattle.cm_machine_model.specs.State.{State}
 use Rattle.cm_machine_model.specs.Step.{Traps}
-use Rattle.cm_machine_told.specs.Causes.{IsFirst}
+use Rattle.cm_machine_laws.specs.Causes.{IsFirst}
 
 abbrev pub Causing : Type 1
 Causing = Trap → Type 0

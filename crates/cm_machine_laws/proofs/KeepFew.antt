@@ -23,12 +23,12 @@ use Rattle.cm_machine_model.specs.Plan.{Link, Plan, Reaches, giver_side, receive
 use Rattle.cm_machine_model.specs.State.{Passage, State}
 use Rattle.cm_machine_model.specs.Valid.{PassesAtTop, PassesFor, PassesIn}
 use Rattle.cm_machine_model.specs.Work.{IsKeptOf, IsValueOf}
-use Rattle.cm_machine_told.specs.Always.{Always}
-use Rattle.cm_machine_told.specs.Bounds.{BorrowsFew, IsBounded, IsBoundedBy, KeepsFew, KeepsNothing, LendsFew}
-use Rattle.cm_machine_told.specs.Doing.{Doing, LoweredCall, body, destroys, doing, handing, placing}
-use Rattle.cm_machine_told.specs.Doing.{root, tidying}
-use Rattle.cm_machine_told.specs.Matching.{AllMatch, MatchIn, MatchOne}
-use Rattle.cm_machine_told.specs.Told.{sender_view, sent_slots}
+use Rattle.cm_machine_laws.specs.Always.{Always}
+use Rattle.cm_machine_laws.specs.Bounds.{BorrowsFew, IsBounded, IsBoundedBy, KeepsFew, KeepsNothing, LendsFew}
+use Rattle.cm_machine_laws.specs.Doing.{Doing, LoweredCall, body, destroys, doing, handing, placing}
+use Rattle.cm_machine_laws.specs.Doing.{root, tidying}
+use Rattle.cm_machine_laws.specs.Matching.{AllMatch, MatchIn, MatchOne}
+use Rattle.cm_machine_laws.specs.Told.{sender_view, sent_slots}
 use Rattle.cm_machine_laws.specs.Following.{AreFollowed}
 use Rattle.cm_machine_laws.proofs.Few.{call_few, met_few, places_few}
 use Rattle.cm_machine_laws.proofs.FollowAlong.{IsFollowedAlong, IsTold, StaysValid}

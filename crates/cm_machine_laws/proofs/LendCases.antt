@@ -34,21 +34,21 @@ use Rattle.cm_machine_model.specs.State.{Passage, State, lends_after_call, lends
 use Rattle.cm_machine_model.specs.Step.{after_lift_of_result, arg_slots, args_view, result_view}
 use Rattle.cm_machine_model.specs.Step.{top_place}
 use Rattle.cm_machine_model.specs.Valid.{IsValidState}
-use Rattle.cm_machine_told.specs.Acting.{acts}
-use Rattle.cm_machine_told.specs.Always.{Always}
-use Rattle.cm_machine_told.specs.CallsOn.{IsBodyCall, body_call, handing_call, placing_call}
-use Rattle.cm_machine_told.specs.CallsOn.{tidying_call}
-use Rattle.cm_machine_told.specs.Doing.{Doing, LoweredCall, after_move, below, body, destroys}
-use Rattle.cm_machine_told.specs.Doing.{doing, goes_on, lowered_call, placing, root, with_body}
-use Rattle.cm_machine_told.specs.Doing.{with_placing}
-use Rattle.cm_machine_told.specs.Frames.{match_length, none_match}
-use Rattle.cm_machine_told.specs.Lent.{AreLent, LendsStand, LentTo}
-use Rattle.cm_machine_told.specs.Matching.{AllMatch, AreTold, MatchOne}
+use Rattle.cm_machine_laws.specs.Acting.{acts}
+use Rattle.cm_machine_laws.specs.Always.{Always}
+use Rattle.cm_machine_laws.specs.CallsOn.{IsBodyCall, body_call, handing_call, placing_call}
+use Rattle.cm_machine_laws.specs.CallsOn.{tidying_call}
+use Rattle.cm_machine_laws.specs.Doing.{Doing, LoweredCall, after_move, below, body, destroys}
+use Rattle.cm_machine_laws.specs.Doing.{doing, goes_on, lowered_call, placing, root, with_body}
+use Rattle.cm_machine_laws.specs.Doing.{with_placing}
+use Rattle.cm_machine_laws.specs.Frames.{match_length, none_match}
+use Rattle.cm_machine_laws.specs.Lent.{AreLent, LendsStand, LentTo}
+use Rattle.cm_machine_laws.specs.Matching.{AllMatch, AreTold, MatchOne}
 use Rattle.cm_machine_laws.proofs.GoneCases.{MetAreThere}
 use Rattle.cm_machine_laws.proofs.Lending.{ends_lent}
 use Rattle.cm_machine_laws.proofs.OnTheWay.{IsTold, StaysValid}
 use Rattle.cm_machine_model.proofs.RunLaws.{may_begin}
-use Rattle.cm_machine_valid.proofs.LentLeaves.{none_lent}
+use Rattle.cm_machine_laws.proofs.LentLeaves.{none_lent}
 
 abbrev pub Told : Plan → State → Frame → List Doing → Move → Event → State → Type 0
 Told plan s top ds m e new = AreLent (after_move plan (Some (actor top)) s m e ds) new.lends

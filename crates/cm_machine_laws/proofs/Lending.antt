@@ -5,20 +5,20 @@ use Rattle.std.specs.Prelude.{⊤, not, ◌==◌, if◌then◌else◌}
 use Rattle.std.proofs.lemmas.Bool.{eq-eqb, ne_eqb}
 use Rattle.std.proofs.lemmas.List.Elements.{filter-append}
 use Rattle.cm_abi_model.specs.Taken.{lent_of}
-use Rattle.cm_machine_told.specs.Told.{met_at_call}
+use Rattle.cm_machine_laws.specs.Told.{met_at_call}
 use Rattle.cm_machine_model.specs.declared.frame.Call.{Call}
 use Rattle.cm_machine_model.specs.declared.frame.Phase.{Phase}
 use Rattle.cm_machine_model.specs.declared.frame.Phase.TheVariants as phase
 use Rattle.cm_machine_model.specs.declared.frame.Purpose.{Purpose}
 use Rattle.cm_machine_model.specs.declared.frame.Purpose.TheVariants as purpose
-use Rattle.cm_machine_told.specs.Matching.{MatchIn, AllMatch, MatchOne}
+use Rattle.cm_machine_laws.specs.Matching.{MatchIn, AllMatch, MatchOne}
 use Rattle.cm_machine_model.specs.declared.frame.Frame.{Frame}
 use Rattle.cm_machine_model.specs.declared.frame.Lend.{Lend}
 use Rattle.cm_machine_model.specs.Plan.{Plan}
 use Rattle.cm_machine_model.specs.State.{lends_after_call, lends_to}
-use Rattle.cm_machine_told.specs.Doing.{Doing, LoweredCall, body, destroys, handing, placing, root}
-use Rattle.cm_machine_told.specs.Doing.{tidying}
-use Rattle.cm_machine_told.specs.Lent.{AreLent, LentBy, LentTo}
+use Rattle.cm_machine_laws.specs.Doing.{Doing, LoweredCall, body, destroys, handing, placing, root}
+use Rattle.cm_machine_laws.specs.Doing.{tidying}
+use Rattle.cm_machine_laws.specs.Lent.{AreLent, LentBy, LentTo}
 
 -- each of these lends is to a frame below this place
 abbrev pub AllUnder : ℕ → List Lend → Type 0

@@ -22,7 +22,7 @@ use Rattle.cm_machine_model.specs.Passages.{IsScanned}
 use Rattle.cm_machine_model.specs.Plan.{Link, types_of}
 use Rattle.cm_machine_model.specs.State.{Passage, State}
 use Rattle.cm_machine_model.specs.Step.{Lifts, MayWantMemory, trap_of}
-use Rattle.cm_machine_told.specs.Causes.{lift_traps}
+use Rattle.cm_machine_laws.specs.Causes.{lift_traps}
 use Rattle.std.specs.List.{AllByRecursion}
 use Rattle.cm_machine_laws.proofs.Judging.{Causing, Judged, here_behind, lacks, next_behind}
 

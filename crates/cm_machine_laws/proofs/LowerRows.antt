@@ -29,9 +29,9 @@ use Rattle.cm_machine_model.specs.Plan.{Link, types_of}
 use Rattle.cm_machine_model.specs.Stack.{actor}
 use Rattle.cm_machine_model.specs.State.{Passage, State, table_at}
 use Rattle.cm_machine_model.specs.Step.{Asks, CallsLowered, GoesOn, GoesOnBy, UnlessNoMemory, MayLeave, PassesArguments, after_lift_of_args, arg_slots, args_view, new_call, receiver_of, trap_of}
-use Rattle.cm_machine_told.specs.Causes.{LowerCause, MayCall, lift_traps}
-use Rattle.cm_machine_told.specs.Doing.{Doing, LoweredCall}
-use Rattle.cm_machine_told.specs.Told.{WasSent, args_receiver, sent_leaves, sent_requests}
+use Rattle.cm_machine_laws.specs.Causes.{LowerCause, MayCall, lift_traps}
+use Rattle.cm_machine_laws.specs.Doing.{Doing, LoweredCall}
+use Rattle.cm_machine_laws.specs.Told.{WasSent, args_receiver, sent_leaves, sent_requests}
 use Rattle.cm_machine_laws.proofs.Judging.{Causing, Judged, check, check_behind, memory, passes, skip}
 use Rattle.cm_machine_laws.proofs.Lifting.{Laws, Only, leaves_want, lifts_judged, parts_want}
 use Rattle.cm_machine_laws.proofs.Resources.{closed_if, full_if, open_if, room_if}

@@ -11,11 +11,11 @@ use Rattle.cm_machine_model.specs.Stack.{actor, top_of}
 use Rattle.cm_machine_model.specs.State.{State}
 use Rattle.cm_machine_model.specs.Step.{Step}
 use Rattle.cm_machine_model.specs.Valid.{IsValidState}
-use Rattle.cm_machine_told.specs.Acting.{acts}
-use Rattle.cm_machine_told.specs.Always.{Always}
-use Rattle.cm_machine_told.specs.Doing.{Doing, after_move, doing, goes_on}
-use Rattle.cm_machine_told.specs.Matching.{AllMatch, AreTold}
-use Rattle.cm_machine_told.specs.MemoryChanges.{ChangesAsTold, MemoryChangesByMovesAndValues}
+use Rattle.cm_machine_laws.specs.Acting.{acts}
+use Rattle.cm_machine_laws.specs.Always.{Always}
+use Rattle.cm_machine_laws.specs.Doing.{Doing, after_move, doing, goes_on}
+use Rattle.cm_machine_laws.specs.Matching.{AllMatch, AreTold}
+use Rattle.cm_machine_laws.specs.MemoryChanges.{ChangesAsTold, MemoryChangesByMovesAndValues}
 use Rattle.cm_machine_laws.specs.Following.{AreFollowed}
 use Rattle.cm_machine_laws.proofs.MemoryCases.{memory_case}
 use Rattle.cm_machine_laws.proofs.MemoryTurns.{Laws}

@@ -35,24 +35,24 @@ use Rattle.cm_machine_model.specs.State.{Passage, State, after_trap}
 use Rattle.cm_machine_model.specs.Step.{IsHanded, after_lift_of_args, after_lift_of_result, new_call}
 use Rattle.cm_machine_model.specs.Step.{after_call, popped, receiver_of, result_place, top_place, with_memory}
 use Rattle.cm_machine_model.specs.Valid.{IsStack, IsValidState}
-use Rattle.cm_machine_told.specs.CallsOn.{IsBodyCall, IsHandingCall, IsPlacingCall, body_call}
-use Rattle.cm_machine_told.specs.CallsOn.{handing_call, placing_call, tidying_call}
-use Rattle.cm_machine_told.specs.Doing.{BodyReturn, Doing, LoweredCall, after_move, body}
-use Rattle.cm_machine_told.specs.Doing.{destroys, lowered_call}
-use Rattle.cm_machine_told.specs.Doing.{with_answer, with_body}
-use Rattle.cm_machine_told.specs.Entries.{answered_by}
-use Rattle.cm_machine_told.specs.Frames.{actor_stands, frame_there, match_length}
-use Rattle.cm_machine_told.specs.Matching.{AllMatch, MatchOne}
-use Rattle.cm_machine_told.specs.MemoryChanges.{ChangesAsTold, ChangesAtEnd, ChangesAtEntry}
-use Rattle.cm_machine_told.specs.MemoryChanges.{ChangesBytes, ChangesInside, HandsArgs, HandsResult}
-use Rattle.cm_machine_told.specs.MemoryChanges.{WritesExactly, GrowsExactly}
-use Rattle.cm_machine_told.specs.Told.{WasSent, answered_before, answers_back, answers_in}
-use Rattle.cm_machine_told.specs.Told.{returned_requests, returner_view, sender_view, sent_requests}
-use Rattle.cm_machine_told.specs.Told.{sent_slots}
+use Rattle.cm_machine_laws.specs.CallsOn.{IsBodyCall, IsHandingCall, IsPlacingCall, body_call}
+use Rattle.cm_machine_laws.specs.CallsOn.{handing_call, placing_call, tidying_call}
+use Rattle.cm_machine_laws.specs.Doing.{BodyReturn, Doing, LoweredCall, after_move, body}
+use Rattle.cm_machine_laws.specs.Doing.{destroys, lowered_call}
+use Rattle.cm_machine_laws.specs.Doing.{with_answer, with_body}
+use Rattle.cm_machine_laws.specs.Entries.{answered_by}
+use Rattle.cm_machine_laws.specs.Frames.{actor_stands, frame_there, match_length}
+use Rattle.cm_machine_laws.specs.Matching.{AllMatch, MatchOne}
+use Rattle.cm_machine_laws.specs.MemoryChanges.{ChangesAsTold, ChangesAtEnd, ChangesAtEntry}
+use Rattle.cm_machine_laws.specs.MemoryChanges.{ChangesBytes, ChangesInside, HandsArgs, HandsResult}
+use Rattle.cm_machine_laws.specs.MemoryChanges.{WritesExactly, GrowsExactly}
+use Rattle.cm_machine_laws.specs.Told.{WasSent, answered_before, answers_back, answers_in}
+use Rattle.cm_machine_laws.specs.Told.{returned_requests, returner_view, sender_view, sent_requests}
+use Rattle.cm_machine_laws.specs.Told.{sent_slots}
 use Rattle.cm_machine_laws.specs.Following.{AreFollowed, IsHanding, IsPlacing}
 use Rattle.cm_machine_laws.proofs.Bytes.{grows_exactly, has_pages, memory_is, others_stay}
 use Rattle.cm_machine_laws.proofs.Bytes.{past_most, writes_exactly}
-use Rattle.cm_machine_told.specs.CallsOn.{as_framed, callee_there, caller_there, framed}
+use Rattle.cm_machine_laws.specs.CallsOn.{as_framed, callee_there, caller_there, framed}
 use Rattle.cm_machine_laws.proofs.MemoryTurns.{answers_by, answers_with, changed, no_places, past_end, settled, turn, IsChanged, IsSettled, IsTurn, Laws}
 
 -- what becomes of memories by a move with this event

@@ -35,10 +35,10 @@ use Rattle.cm_machine_model.specs.Plan.{Link, Plan, receiver_side}
 use Rattle.cm_machine_model.specs.Plan.{types_of}
 use Rattle.cm_machine_model.specs.State.{Passage, State}
 use Rattle.cm_machine_model.specs.Step.{AreOf, IsHanded, giver_of, given_to, one_i32}
-use Rattle.cm_machine_told.specs.Doing.{Asked, answer_of, with_answer}
-use Rattle.cm_machine_told.specs.Entries.{answered_by}
-use Rattle.cm_machine_told.specs.MemoryChanges.{ChangesBytes, ChangesInside}
-use Rattle.cm_machine_told.specs.Told.{answers_in, one_answer}
+use Rattle.cm_machine_laws.specs.Doing.{Asked, answer_of, with_answer}
+use Rattle.cm_machine_laws.specs.Entries.{answered_by}
+use Rattle.cm_machine_laws.specs.MemoryChanges.{ChangesBytes, ChangesInside}
+use Rattle.cm_machine_laws.specs.Told.{answers_in, one_answer}
 use Rattle.cm_machine_laws.specs.Following.{IsOneOpen}
 use Rattle.cm_machine_laws.proofs.Regions.{EachAsked, EndsExact, outside_stays}
 use Rattle.cm_machine_model.proofs.PassagesLaws.{asked_on}

@@ -14,12 +14,12 @@ use Rattle.cm_machine_model.specs.Owning.{serials, travelling}
 use Rattle.cm_machine_model.specs.Plan.{Link, Plan, Reaches}
 use Rattle.cm_machine_model.specs.State.{Passage, State}
 use Rattle.cm_machine_model.specs.Valid.{IsValidState, PassesAtTop, PassesFor, PassesIn}
-use Rattle.cm_machine_told.specs.Acting.{acts}
-use Rattle.cm_machine_told.specs.Always.{Always}
-use Rattle.cm_machine_told.specs.Doing.{Doing, body, destroys, doing, handing, placing, root}
-use Rattle.cm_machine_told.specs.Doing.{tidying}
-use Rattle.cm_machine_told.specs.Matching.{AllMatch, AreTold, MatchIn, MatchOne}
-use Rattle.cm_machine_told.specs.Placed.{EachResourceHasOnePlace, TravelsAsTold}
+use Rattle.cm_machine_laws.specs.Acting.{acts}
+use Rattle.cm_machine_laws.specs.Always.{Always}
+use Rattle.cm_machine_laws.specs.Doing.{Doing, body, destroys, doing, handing, placing, root}
+use Rattle.cm_machine_laws.specs.Doing.{tidying}
+use Rattle.cm_machine_laws.specs.Matching.{AllMatch, AreTold, MatchIn, MatchOne}
+use Rattle.cm_machine_laws.specs.Placed.{EachResourceHasOnePlace, TravelsAsTold}
 use Rattle.cm_machine_laws.specs.Following.{AreFollowed}
 
 abbrev pub StaysValid : Type 0

@@ -25,10 +25,10 @@ use Rattle.cm_machine_model.specs.Rows.{same_link}
 use Rattle.cm_machine_model.specs.Stack.{below_top}
 use Rattle.cm_machine_model.specs.State.{State, table_at}
 use Rattle.cm_machine_model.specs.Step.{Answers, AreOf, ReturnsIn, one_i32, top_place}
-use Rattle.cm_machine_told.specs.Causes.{HandedCause, PlacedCause, align_asked, size_asked}
-use Rattle.cm_machine_told.specs.Doing.{Asked, BodyReturn, LoweredCall}
-use Rattle.cm_machine_told.specs.Matching.{IsCallOf}
-use Rattle.cm_machine_told.specs.Told.{AsksFor, answered_before, answers_back, answers_in, args_receiver, one_answer, result_receiver, returned_leaves, returned_requests, returner_view, sender_view, sent_leaves, sent_requests, sent_slots}
+use Rattle.cm_machine_laws.specs.Causes.{HandedCause, PlacedCause, align_asked, size_asked}
+use Rattle.cm_machine_laws.specs.Doing.{Asked, BodyReturn, LoweredCall}
+use Rattle.cm_machine_laws.specs.Matching.{IsCallOf}
+use Rattle.cm_machine_laws.specs.Told.{AsksFor, answered_before, answers_back, answers_in, args_receiver, one_answer, result_receiver, returned_leaves, returned_requests, returner_view, sender_view, sent_leaves, sent_requests, sent_slots}
 use Rattle.cm_machine_laws.specs.Following.{IsHanding, IsOneOpen, IsPlacing}
 use Rattle.cm_machine_laws.proofs.AnswerRows.{AnswerCauses, IsAll, OneCarried, answer_judged}
 use Rattle.cm_machine_laws.proofs.Judging.{Judged, check}

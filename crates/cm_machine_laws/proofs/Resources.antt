@@ -21,8 +21,8 @@ use Rattle.cm_machine_model.specs.declared.frame.Frame.{Frame}
 use Rattle.cm_machine_model.specs.Stack.{actor}
 use Rattle.cm_machine_model.specs.State.{State, table_at}
 use Rattle.cm_machine_model.specs.Step.{DropsFound, DropsHandle, DropsOwned, Drops, HasRoom, IsOpen, Makes, MayLeave, Represents, TellsFound}
-use Rattle.cm_machine_told.specs.Causes.{DropCause, IsClosed, IsDestroyed, MakeCause, MayCall, TellCause}
-use Rattle.cm_machine_told.specs.Doing.{Doing}
+use Rattle.cm_machine_laws.specs.Causes.{DropCause, IsClosed, IsDestroyed, MakeCause, MayCall, TellCause}
+use Rattle.cm_machine_laws.specs.Doing.{Doing}
 use Rattle.cm_machine_laws.proofs.Judging.{Judged, check, here, memory, next, passes}
 use Rattle.cm_lemmas.proofs.Numbers.{eq_of, not_zero}
 use Rattle.cm_lemmas.proofs.Bools.{true_is_not_false}

@@ -33,15 +33,15 @@ use Rattle.cm_machine_model.specs.State.{Passage, State, after_trap}
 use Rattle.cm_machine_model.specs.Step.{after_call, after_handing, after_lift_of_result, as_values}
 use Rattle.cm_machine_model.specs.Step.{flat_result, given_to, receiver_of, top_place}
 use Rattle.cm_machine_model.specs.Valid.{IsValidState}
-use Rattle.cm_machine_told.specs.Acting.{acts}
-use Rattle.cm_machine_told.specs.Always.{Always}
-use Rattle.cm_machine_told.specs.CallsOn.{tidying_call}
-use Rattle.cm_machine_told.specs.Doing.{Asked, BodyReturn, answer_of, Doing, body_return, destroys}
-use Rattle.cm_machine_told.specs.Doing.{doing, with_answer}
-use Rattle.cm_machine_told.specs.Entries.{GivesBack, Resumes, ResumesWithWhatWasReturned, TakesResult}
-use Rattle.cm_machine_told.specs.Entries.{answered_by, return_by}
-use Rattle.cm_machine_told.specs.Matching.{AllMatch, AreTold, MatchOne}
-use Rattle.cm_machine_told.specs.Told.{is_by_memory, result_place_of}
+use Rattle.cm_machine_laws.specs.Acting.{acts}
+use Rattle.cm_machine_laws.specs.Always.{Always}
+use Rattle.cm_machine_laws.specs.CallsOn.{tidying_call}
+use Rattle.cm_machine_laws.specs.Doing.{Asked, BodyReturn, answer_of, Doing, body_return, destroys}
+use Rattle.cm_machine_laws.specs.Doing.{doing, with_answer}
+use Rattle.cm_machine_laws.specs.Entries.{GivesBack, Resumes, ResumesWithWhatWasReturned, TakesResult}
+use Rattle.cm_machine_laws.specs.Entries.{answered_by, return_by}
+use Rattle.cm_machine_laws.specs.Matching.{AllMatch, AreTold, MatchOne}
+use Rattle.cm_machine_laws.specs.Told.{is_by_memory, result_place_of}
 use Rattle.cm_machine_laws.specs.Following.{AreFollowed, IsKept}
 use Rattle.cm_machine_laws.proofs.Follow.{one_value}
 use Rattle.cm_machine_laws.proofs.FollowCases as cases

@@ -22,11 +22,11 @@ use Rattle.cm_machine_model.specs.Stack.{actor, actor_in, actor_of, below_top, t
 use Rattle.cm_machine_model.specs.State.{State}
 use Rattle.cm_machine_model.specs.Step.{Calls, Grows, MayLeave, MayLeaveIn, Moves, Returns, ReturnsIn, Step, StepOn, Traps, Writes, as_values}
 use Rattle.cm_machine_model.specs.Valid.{IsValidState}
-use Rattle.cm_machine_told.specs.Causes.{BodyCause, Cause, CallCause, GrowCause, MayCall, ReturnCause, StopCause, WriteCause, call_order, call_order_behind, lift_traps, order_before, order_behind, return_order, return_order_behind}
-use Rattle.cm_machine_told.specs.Doing.{BodyReturn, Doing, LoweredCall, body, destroys, handing, placing, root, tidying}
-use Rattle.cm_machine_told.specs.Frames.{match_length, may_call}
-use Rattle.cm_machine_told.specs.Matching.{AllMatch, AreTold, IsCallOf, MatchIn, MatchOne}
-use Rattle.cm_machine_told.specs.Told.{result_place_of}
+use Rattle.cm_machine_laws.specs.Causes.{BodyCause, Cause, CallCause, GrowCause, MayCall, ReturnCause, StopCause, WriteCause, call_order, call_order_behind, lift_traps, order_before, order_behind, return_order, return_order_behind}
+use Rattle.cm_machine_laws.specs.Doing.{BodyReturn, Doing, LoweredCall, body, destroys, handing, placing, root, tidying}
+use Rattle.cm_machine_laws.specs.Frames.{match_length, may_call}
+use Rattle.cm_machine_laws.specs.Matching.{AllMatch, AreTold, IsCallOf, MatchIn, MatchOne}
+use Rattle.cm_machine_laws.specs.Told.{result_place_of}
 use Rattle.cm_machine_laws.specs.Following.{AreFollowed}
 use Rattle.cm_machine_laws.proofs.AnswerRows.{OneCarried}
 use Rattle.cm_machine_laws.proofs.BodyRows.{Returning, TupleFirst, body_judged, returned_by}

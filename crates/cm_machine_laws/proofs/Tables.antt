@@ -17,8 +17,8 @@ use Rattle.cm_abi_model.specs.Receives.{HandleLeaf}
 use Rattle.cm_abi_model.specs.Taken.{CanGo, AllThere, Met, after_met, lent_of, taken_of}
 use Rattle.cm_machine_model.specs.declared.frame.Lend.{Lend}
 use Rattle.cm_machine_model.specs.State.{table_at, tables_after_call, tables_after_unlend}
-use Rattle.cm_machine_told.specs.HandleChanges.{AreAdded, AreGone, StandsAdded, StayBut, index_of_added, indices_given}
-use Rattle.cm_machine_told.specs.HandleChanges.{unlent}
+use Rattle.cm_machine_laws.specs.HandleChanges.{AreAdded, AreGone, StandsAdded, StayBut, index_of_added, indices_given}
+use Rattle.cm_machine_laws.specs.HandleChanges.{unlent}
 use Rattle.cm_lemmas.proofs.Lists.{Contains-nil, set_past}
 use Rattle.cm_machine_model.proofs.StateLaws.{table_same}
 

@@ -14,12 +14,12 @@ use Rattle.cm_machine_model.specs.Stack.{actor, top_of}
 use Rattle.cm_machine_model.specs.State.{State}
 use Rattle.cm_machine_model.specs.Step.{Moves, StepOn}
 use Rattle.cm_machine_model.specs.Valid.{IsValidState}
-use Rattle.cm_machine_told.specs.Acting.{acts}
-use Rattle.cm_machine_told.specs.Always.{Always}
-use Rattle.cm_machine_told.specs.Causes.{Cause, IsFirst, MayFindNoMemory, order_before, order_behind}
-use Rattle.cm_machine_told.specs.Closing.{ClosesWhatWentOn, NamesItsCause, TrapsAtACause, TrapHasItsCauseAndCloses}
-use Rattle.cm_machine_told.specs.Doing.{Doing, doing}
-use Rattle.cm_machine_told.specs.Matching.{AllMatch, AreTold}
+use Rattle.cm_machine_laws.specs.Acting.{acts}
+use Rattle.cm_machine_laws.specs.Always.{Always}
+use Rattle.cm_machine_laws.specs.Causes.{Cause, IsFirst, MayFindNoMemory, order_before, order_behind}
+use Rattle.cm_machine_laws.specs.Closing.{ClosesWhatWentOn, NamesItsCause, TrapsAtACause, TrapHasItsCauseAndCloses}
+use Rattle.cm_machine_laws.specs.Doing.{Doing, doing}
+use Rattle.cm_machine_laws.specs.Matching.{AllMatch, AreTold}
 use Rattle.cm_machine_laws.specs.Following.{AreFollowed}
 use Rattle.cm_machine_laws.proofs.AnswerRows.{OneCarried}
 use Rattle.cm_machine_laws.proofs.BodyRows.{TupleFirst}

@@ -11,13 +11,13 @@ use Rattle.cm_machine_model.specs.declared.frame.Phase.TheVariants as phase
 use Rattle.cm_machine_model.specs.declared.frame.Purpose.TheVariants as purpose
 use Rattle.cm_machine_model.specs.Passages.{Carries, HasAnswers, asked_for}
 use Rattle.cm_machine_model.specs.State.{Passage, State}
-use Rattle.cm_machine_told.specs.Doing.{Asked, BodyReturn, Doing, LoweredCall, body, destroys}
-use Rattle.cm_machine_told.specs.Doing.{handing, placing, root, tidying}
+use Rattle.cm_machine_laws.specs.Doing.{Asked, BodyReturn, Doing, LoweredCall, body, destroys}
+use Rattle.cm_machine_laws.specs.Doing.{handing, placing, root, tidying}
 use Rattle.cm_machine_model.specs.Stack.{top_of}
 use Rattle.cm_machine_model.specs.Step.{as_values}
-use Rattle.cm_machine_told.specs.Entries.{ReceivesResult}
-use Rattle.cm_machine_told.specs.Told.{AsksFor, WasReturned, WasSent, answered_before, answers_back}
-use Rattle.cm_machine_told.specs.Told.{answers_in, returned_requests, sent_requests, sent_slots}
+use Rattle.cm_machine_laws.specs.Entries.{ReceivesResult}
+use Rattle.cm_machine_laws.specs.Told.{AsksFor, WasReturned, WasSent, answered_before, answers_back}
+use Rattle.cm_machine_laws.specs.Told.{answers_in, returned_requests, sent_requests, sent_slots}
 
 -- Of what was asked the latest is open, and all before it is answered.
 abbrev pub IsOneOpen : List Asked → Type 0

@@ -1,15 +1,15 @@
 //! Which handles come and go, as a law: the function here does nothing, and its contract is the
 //! law.
 
-ghost use Rattle.cm_machine_told.specs.Always.{Always};
-ghost use Rattle.cm_machine_told.specs.FreeIndices.{NextIndexIsTheLastFreed};
-ghost use Rattle.cm_machine_told.specs.HandleChanges.{HandlesChangeByTheirMoves};
+ghost use Rattle.cm_machine_laws.specs.Always.{Always};
+ghost use Rattle.cm_machine_laws.specs.FreeIndices.{NextIndexIsTheLastFreed};
+ghost use Rattle.cm_machine_laws.specs.HandleChanges.{HandlesChangeByTheirMoves};
 
+use crate::told_laws::histories_are_told;
+use crate::valid_laws::{histories_are_valid, one_value_is_carried};
 use crate::values::values_are_followed;
 use cm_abi_model::laws::{what_is_handed_over_is_counted, what_is_met_stands};
 use cm_handles::laws::tables_change_in_one_place;
-use cm_machine_told::laws::histories_are_told;
-use cm_machine_valid::laws::{histories_are_valid, one_value_is_carried};
 
 /// Handles in each history of each set that can be linked, whatever its guests do.
 ///

@@ -1,4 +1,9 @@
-//! The proofs of the headline's sentences, over all histories; no code.
+//! The headline's sentences, on moves and events alone, and their proofs, over all histories; no
+//! code.
+//!
+//! The sentences reconstruct who acts, which calls are open, which values were sent and returned,
+//! and why a move traps, without reading the machine's stack; that the stack says the same is a law
+//! (`told_laws`). Each begin and each step keeps the machine's state valid (`valid_laws`).
 //!
 //! - `values`: what was sent is what is received, by what allocators were asked for and answered;
 //! - `memories`: which bytes of which memory change;
@@ -12,5 +17,7 @@
 pub mod handles;
 pub mod memories;
 pub mod owners;
+pub mod told_laws;
 pub mod traps;
+pub mod valid_laws;
 pub mod values;

@@ -1,16 +1,16 @@
 //! Which bytes of which memory change, as a law: the function here does nothing, and its contract
 //! is the law.
 
-ghost use Rattle.cm_machine_told.specs.Always.{Always};
-ghost use Rattle.cm_machine_told.specs.MemoryChanges.{MemoryChangesByMovesAndValues};
+ghost use Rattle.cm_machine_laws.specs.Always.{Always};
+ghost use Rattle.cm_machine_laws.specs.MemoryChanges.{MemoryChangesByMovesAndValues};
 
+use crate::told_laws::histories_are_told;
+use crate::valid_laws::{histories_are_valid, one_value_is_carried};
 use crate::values::values_are_followed;
 use cm_abi_model::laws::{
     each_part_is_asked_for, requests_end_exact, what_is_stored_lies_in_regions,
 };
 use cm_abi_requests::laws::what_is_denoted_can_be_lowered;
-use cm_machine_told::laws::histories_are_told;
-use cm_machine_valid::laws::{histories_are_valid, one_value_is_carried};
 
 /// Memories in each history of each set that can be linked, whatever its guests do.
 ///

@@ -1,15 +1,15 @@
 //! Where resources are, and what is lent and borrowed, as laws: each function here does nothing,
 //! and its contract is the law.
 
-ghost use Rattle.cm_machine_told.specs.Always.{Always};
-ghost use Rattle.cm_machine_told.specs.Lent.{BorrowsStand, LendsStand};
-ghost use Rattle.cm_machine_told.specs.Placed.{KeepsGone, EachResourceHasOnePlace};
+ghost use Rattle.cm_machine_laws.specs.Always.{Always};
+ghost use Rattle.cm_machine_laws.specs.Lent.{BorrowsStand, LendsStand};
+ghost use Rattle.cm_machine_laws.specs.Placed.{KeepsGone, EachResourceHasOnePlace};
 
-use crate::values::values_are_followed;
-use cm_machine_told::laws::histories_are_told;
-use cm_machine_valid::laws::{
+use crate::told_laws::histories_are_told;
+use crate::valid_laws::{
     histories_are_valid, what_is_borrowed_is_backed, what_is_met_is_the_values_handles,
 };
+use crate::values::values_are_followed;
 
 /// Resources and borrows in each history of each set that can be linked, whatever its guests do.
 ///

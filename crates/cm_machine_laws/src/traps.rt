@@ -1,19 +1,19 @@
 //! Which trap comes when, and what it closes, as laws: each function here does nothing, and its
 //! contract is the law.
 
-ghost use Rattle.cm_machine_told.specs.Always.{Always};
-ghost use Rattle.cm_machine_told.specs.Closing.{NamesFaults, TrapHasItsCauseAndCloses};
-ghost use Rattle.cm_machine_told.specs.Closing.{TrapsAtACause};
+ghost use Rattle.cm_machine_laws.specs.Always.{Always};
+ghost use Rattle.cm_machine_laws.specs.Closing.{NamesFaults, TrapHasItsCauseAndCloses};
+ghost use Rattle.cm_machine_laws.specs.Closing.{TrapsAtACause};
 
+use crate::told_laws::histories_are_told;
+use crate::valid_laws::{
+    histories_are_valid, one_value_is_carried, what_is_met_is_the_values_handles,
+};
 use crate::values::{handles_are_counted, values_are_followed};
 use cm_abi_lift::laws::first_faults_are_told;
 use cm_abi_model::laws::{
     denotations_are_unique, each_part_is_asked_for, what_is_handed_over_is_counted,
     what_is_met_stands,
-};
-use cm_machine_told::laws::histories_are_told;
-use cm_machine_valid::laws::{
-    histories_are_valid, one_value_is_carried, what_is_met_is_the_values_handles,
 };
 
 /// Which trap comes when, in each history of each set that can be linked, whatever its guests do.

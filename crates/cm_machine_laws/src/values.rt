@@ -9,17 +9,17 @@ ghost use Rattle.cm_abi_model.specs.Receives.{leaves_in};
 ghost use Rattle.cm_machine_model.specs.History.{IsHistoryOf, Occurrence};
 ghost use Rattle.cm_machine_model.specs.Plan.{Plan};
 ghost use Rattle.cm_machine_model.specs.State.{State};
-ghost use Rattle.cm_machine_told.specs.Always.{Always};
-ghost use Rattle.cm_machine_told.specs.Asks.{AsksForWhatTheValueWants};
-ghost use Rattle.cm_machine_told.specs.Bounds.{KeepsFew};
-ghost use Rattle.cm_machine_told.specs.Doing.{doing};
-ghost use Rattle.cm_machine_told.specs.Entries.{PostReturnGetsTheFlatResult, ReceivesWhatWasSent};
-ghost use Rattle.cm_machine_told.specs.Entries.{ResumesWithWhatWasReturned};
+ghost use Rattle.cm_machine_laws.specs.Always.{Always};
+ghost use Rattle.cm_machine_laws.specs.Asks.{AsksForWhatTheValueWants};
+ghost use Rattle.cm_machine_laws.specs.Bounds.{KeepsFew};
+ghost use Rattle.cm_machine_laws.specs.Doing.{doing};
+ghost use Rattle.cm_machine_laws.specs.Entries.{PostReturnGetsTheFlatResult, ReceivesWhatWasSent};
+ghost use Rattle.cm_machine_laws.specs.Entries.{ResumesWithWhatWasReturned};
 ghost use Rattle.cm_machine_laws.specs.Following.{AreFollowed};
 
+use crate::told_laws::histories_are_told;
+use crate::valid_laws::{histories_are_valid, one_value_is_carried};
 use cm_abi_model::laws::what_is_received_stays;
-use cm_machine_told::laws::histories_are_told;
-use cm_machine_valid::laws::{histories_are_valid, one_value_is_carried};
 
 /// A value of a type has no more handles than are counted in it.
 pub fn handles_are_counted()

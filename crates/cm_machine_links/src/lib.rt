@@ -1,4 +1,4 @@
-//! What each core function of a linked set comes to, with layouts, found once.
+//! Finds once, for a linked set, what each core function comes to, with its layouts.
 //!
 //! The layouts and core kinds of what a function passes, and what has to be looked at and written
 //! of it, are made once for each type of a function, with each resource what it is in the end, and

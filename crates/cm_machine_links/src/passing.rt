@@ -15,7 +15,7 @@ ghost use Rattle.cm_abi_model.specs.Ways.{way_of};
 ghost use Rattle.cm_abi_programs.specs.CallPuts.{call_puts_in, call_puts_of};
 ghost use Rattle.cm_abi_programs.specs.Checks.{passed_checks_of};
 ghost use Rattle.cm_abi_programs.specs.Coded.{checks_in};
-ghost use Rattle.cm_abi_placed.specs.Placed.{AreProgramsOf};
+ghost use Rattle.cm_abi_programs.specs.Placed.{AreProgramsOf};
 ghost use Rattle.cm_abi_slots.specs.Steps.{steps_for};
 ghost use Rattle.cm_machine_parts.specs.Links.{ArePassed};
 ghost use Rattle.cm_machine_links.specs.Standing.{AreCallTypes, IsCallTypes, IsSpelled};
@@ -23,7 +23,7 @@ ghost use Rattle.cm_machine_links.specs.Standing.{first_flat, most_flat, passed_
 ghost use Rattle.cm_machine_links.specs.Standing.{passed_nodes};
 
 use cm_abi_model::Way;
-use cm_abi_placed::{CallProgram, PlacedPrograms};
+use cm_abi_programs::{CallProgram, PlacedPrograms};
 use cm_abi_slots::{SlotStep, slot_steps};
 use cm_layout::Layout;
 use cm_layout_placed::{Kinds, Layouts};

@@ -74,7 +74,7 @@ import_numbered c n k [] x e = absurd cc
 import_numbered c n zero (y ∷ ys) x e = ap (λ z. Some (import_at c n z)) (some_is y x e) ∙ ap (λ m. Some (import_at c m x)) (omega arith)
 import_numbered c n (suc k) (y ∷ ys) x e = import_numbered c (n + 1) k ys x e ∙ ap (λ m. Some (import_at c m x)) (omega arith)
 
-imports_length : (c n : ℕ) (xs : List NamedExtern) → length (imports_from c n xs) ≡ length xs
+pub imports_length : (c n : ℕ) (xs : List NamedExtern) → length (imports_from c n xs) ≡ length xs
 imports_length c n [] = refl
 imports_length c n (x ∷ xs) = ap suc (imports_length c (n + 1) xs)
 

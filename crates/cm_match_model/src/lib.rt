@@ -1,4 +1,4 @@
-//! Which sets of components link, and what a resource is in the end.
+//! Defines which sets of components link, and what a resource is in the end.
 //!
 //! Definitions and laws cover every form: the plan of a set, why a set cannot be linked, which
 //! exports fit an import by name and version, and which imports are served alike. The code is in

@@ -11,8 +11,8 @@ use Rattle.cm_types_arena.specs.Places.{funcs_of, types_of}
 use Rattle.cm_types_arena.specs.declared.types.Types.{Types}
 use Rattle.cm_types_numbers.specs.Numbering.{Extends, Numbering, numbering}
 use Rattle.cm_types_numbers.specs.declared.numbers.Numbers.{Numbers}
-use Rattle.cm_types_numbers.specs.PlacedNumbersTables.{KnowsFuncs, KnowsPlaced, KnowsTypes}
-use Rattle.cm_types_numbers.specs.declared.placed_numbers_known.KnownPlaced.{KnownPlaced}
+use Rattle.cm_types_numbers.specs.PlacedTables.{KnowsFuncs, KnowsPlaced, KnowsTypes}
+use Rattle.cm_types_numbers.specs.declared.known_placed.KnownPlaced.{KnownPlaced}
 use Rattle.cm_match_serving.specs.cm_validate_spaces.Checked.{funcs_in, types_in}
 use Rattle.cm_match_serving.specs.cm_validate_spaces.declared.checked.Checked.{Checked}
 use Rattle.cm_match_model.specs.Serving.{standing}

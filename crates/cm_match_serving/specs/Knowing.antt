@@ -5,8 +5,8 @@ use Rattle.cm_types_arena.specs.Replaced.{Standing}
 use Rattle.cm_types_arena.specs.Places.{types_of, funcs_of}
 use Rattle.cm_types_arena.specs.declared.types.Types.{Types}
 use Rattle.cm_types_numbers.specs.Numbering.{Numbering}
-use Rattle.cm_types_numbers.specs.PlacedNumbersTables.{KnowsPlaced}
-use Rattle.cm_types_numbers.specs.declared.placed_numbers_known.KnownPlaced.{KnownPlaced}
+use Rattle.cm_types_numbers.specs.PlacedTables.{KnowsPlaced}
+use Rattle.cm_types_numbers.specs.declared.known_placed.KnownPlaced.{KnownPlaced}
 
 -- What is known are numbers of these types and types of functions, whichever arena has them.
 abbrev pub KnowsAll : Numbering → Standing → List Ty → List FuncTy → KnownPlaced → Type 0

@@ -5,7 +5,7 @@ use Rattle.cm_types_arena.specs.Replaced.{replaced, replaced_func}
 use Rattle.cm_types_arena.specs.TypeDefs.{type_at, func_at}
 use Rattle.cm_types_numbers.specs.Numbering.{numbering}
 use Rattle.cm_types_numbers.specs.Moved.{brought_by}
-use Rattle.cm_types_numbers.specs.declared.placed_numbers_known.KnownPlaced.{KnownPlaced}
+use Rattle.cm_types_numbers.specs.declared.known_placed.KnownPlaced.{KnownPlaced}
 use Rattle.cm_types_numbers.specs.declared.moves.Brought.{Brought}
 use Rattle.cm_match_serving.specs.cm_validate_spaces.declared.checked.Checked.{Checked}
 use Rattle.cm_match_model.specs.Serving.{standing}

@@ -1,4 +1,4 @@
-//! Whether an export serves an import: by name and version, then by type.
+//! Decides whether an export serves an import: by name and version, then by type.
 //!
 //! Types are compared once each resource is replaced by what it is in the end.
 #![tactic(auto)]

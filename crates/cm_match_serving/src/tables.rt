@@ -9,7 +9,7 @@ ghost use Rattle.cm_match_serving.specs.Knowing.{AreUnknown};
 
 use crate::sides::{Pair, Side};
 use cm_types_numbers::laws::numbers_stay;
-use cm_types_numbers::placed_numbers_laws::known_stays;
+use cm_types_numbers::placed_laws::known_stays;
 use cm_types_numbers::{Brought, KnownPlaced, Numbers};
 use std::alloc::{AllocError, Global};
 

@@ -13,7 +13,6 @@ mod placing;
 mod text_numbers;
 mod texts;
 
-pub use key_tables::{KeyTable, look_up, note};
 pub use keys::Keys;
 pub use text_numbers::TextNumbers;
 pub use texts::TextTable;

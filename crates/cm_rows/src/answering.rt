@@ -1,10 +1,10 @@
 //! The families of a program of rows: files of rows, each of which holds what is asked and the
 //! answer that is wanted.
 
+use crate::asked::Asked;
 use crate::fault::RowFault;
 use crate::line::Line;
 use std::alloc::Global;
-use std::process::ExitCode;
 use std::rt::Files;
 use std::{fs, io};
 
@@ -33,33 +33,38 @@ impl Tally {
         self.rows = self.rows.saturating_add(1);
         self.passed = self.passed.saturating_add(u64::from(passes));
     }
+
+    /// Prints how many rows of a family pass.
+    fn print(&self, rt: &impl Print, family: &str) -> io::Result<()> {
+        let Tally { rows, passed } = *self;
+        if rows == passed {
+            println!(rt; "{family}: {rows} rows pass")
+        } else {
+            println!(rt; "{family}: {passed} of {rows} rows pass")
+        }
+    }
 }
 
-/// Answers the rows of each of these families with a driver of its own. The rows of a family are
-/// the lines `INPUT => WANTED` of the file `FAMILY.rows` in the folder where the program runs,
-/// where a line that is empty or begins with `#` is none. Prints each row that is answered in
-/// another way than wanted, with its line, and for each family how many of its rows pass. The
-/// status is 0 where all do, else 1; the error is that of a file that cannot be read, or of what
-/// cannot be printed.
+/// Answers the rows of each of these families that is asked for, with a driver of its own. The rows
+/// of a family are the lines `INPUT => WANTED` of the file `FAMILY.rows` in the folder where the
+/// program runs, where a line that is empty or begins with `#` is none. Prints each row that is
+/// answered in another way than wanted, with its line, and for each family how many of its rows
+/// pass. Answers whether all do; the error is that of a file that cannot be read, or of what cannot
+/// be printed.
 pub fn answer_families<D: Driver, R: Files + Print + AllocGlobal>(
     rt: &R,
     families: &[&str],
-) -> io::Result<ExitCode> {
+    asked: &Asked,
+) -> io::Result<bool> {
     let mut all_pass = true;
     for family in families {
-        let Tally { rows, passed } = answer_family::<D, R>(rt, family)?;
-        if rows == passed {
-            println!(rt; "{family}: {rows} rows pass")?;
-        } else {
-            println!(rt; "{family}: {passed} of {rows} rows pass")?;
-            all_pass = false;
+        if asked.has(family) {
+            let tally = answer_family::<D, R>(rt, family)?;
+            tally.print(rt, family)?;
+            all_pass = all_pass && tally.rows == tally.passed;
         }
     }
-    Ok(if all_pass {
-        ExitCode::SUCCESS
-    } else {
-        ExitCode::FAILURE
-    })
+    Ok(all_pass)
 }
 
 fn answer_family<D: Driver, R: Files + Print + AllocGlobal>(

@@ -6,6 +6,7 @@
 
 mod answering;
 mod arena;
+mod asked;
 mod bytes;
 mod core_values;
 mod escapes;
@@ -19,6 +20,7 @@ mod words;
 
 pub use answering::{Driver, answer_families};
 pub use arena::{Arena, Outcome, Places};
+pub use asked::Asked;
 pub use bytes::{write_bytes, write_units};
 pub use core_values::{read_core_value, read_core_values, write_core_values};
 pub use escapes::{read_text, write_text};

@@ -18,10 +18,10 @@ use Rattle.cm_binary_model.specs.Trees.{SectionTree}
 use Rattle.cm_validate_model.specs.Definitions.{TypeDef, FuncDef, MemberDef, func_member, type_member, NamedMember}
 use Rattle.cm_validate_model.specs.Items.{Item, type_item}
 use Rattle.cm_validate_model.specs.Spaces.{Spaces, after_item, after_items, def_of, member_at, named_member}
-use Rattle.cm_shims_model.specs.declared.parts.ShimExport.{ShimExport}
-use Rattle.cm_shims_model.specs.declared.parts.ShimImport.{ShimImport}
-use Rattle.cm_shims_model.specs.Trees as trees
-use Rattle.cm_shims_model.specs.Trees.{ShimSectionTree}
+use Rattle.cm_shims_plain.specs.declared.parts.ShimExport.{ShimExport}
+use Rattle.cm_shims_plain.specs.declared.parts.ShimImport.{ShimImport}
+use Rattle.cm_shims_plain.specs.Trees as trees
+use Rattle.cm_shims_plain.specs.Trees.{ShimSectionTree}
 use Rattle.cm_shims_plain.specs.declared.fault.ShimReason.{ShimReason}
 use Rattle.cm_shims_plain.specs.declared.wants.Want.{Want}
 use Rattle.cm_shims_plain.specs.Instantiated.{Given, Instantiated, argument, type_at, func_at, type_argument, imported, import_step, type_step, with_ascribed, exported, export_step, shared_step, shim_step, instantiated, instantiating}
@@ -35,6 +35,7 @@ use Rattle.cm_lemmas.proofs.Equations.{ok_is}
 use Rattle.cm_lemmas.proofs.Lists.{one_longer}
 use Rattle.cm_lemmas.proofs.Options.{none_some, some_is}
 use Rattle.cm_lemmas.proofs.Results.{ok_of}
+use Rattle.cm_lemmas.proofs.Lists.{get_last as at_end}
 
 -- ---- what an answer rests on
 
@@ -70,10 +71,6 @@ chained f (Some x) y h = record { value = x; was = refl; is = h }
 chained f None y h = none_some y h
 
 -- ---- lists whose members are there
-
-at_end : {A : Type 0} (xs : List A) (x : A) → slice_get (xs ++ x ∷ []) (length xs) ≡ Some x
-at_end [] x = refl
-at_end (y ∷ xs) x = at_end xs x
 
 still_there : {A : Type 0} (xs ys : List A) (i : ℕ) (x : A) → slice_get xs i ≡ Some x → slice_get (xs ++ ys) i ≡ Some x
 still_there [] ys i x h = none_some x h

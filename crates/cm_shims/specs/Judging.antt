@@ -3,7 +3,7 @@ use Rattle.std.specs.Prelude.{◌≡◌, ◌⊎◌, List, take, Option, Some, No
 use Rattle.cm_types_arena.specs.Places.{funcs_of, types_of}
 use Rattle.cm_types_arena.specs.declared.types.Types.{Types}
 use Rattle.cm_types_numbers.specs.Numbering.{numbering}
-use Rattle.cm_types_numbers.specs.PlacedNumbersTables.{KnowsPlaced}
+use Rattle.cm_types_numbers.specs.PlacedTables.{KnowsPlaced}
 use Rattle.cm_validate_model.specs.Definitions.{TypeDef}
 use Rattle.cm_validate_model.specs.Spaces.{Spaces}
 use Rattle.cm_validate_spaces.specs.IndexSpaces.{funcs_in, types_in}

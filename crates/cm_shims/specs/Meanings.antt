@@ -17,10 +17,10 @@ use Rattle.cm_validate_model.specs.Definitions.{type_member, NamedMember}
 use Rattle.cm_validate_model.specs.Items.{type_item}
 use Rattle.cm_validate_model.specs.Scopes.{func_def_of, value_def_of}
 use Rattle.cm_validate_model.specs.Spaces.{Spaces, after_items, named_member}
-use Rattle.cm_shims_model.specs.declared.parts.ShimExport.{ShimExport}
-use Rattle.cm_shims_model.specs.declared.parts.ShimImport.{ShimImport}
-use Rattle.cm_shims_model.specs.Trees as trees
-use Rattle.cm_shims_model.specs.Trees.{ShimSectionTree}
+use Rattle.cm_shims_plain.specs.declared.parts.ShimExport.{ShimExport}
+use Rattle.cm_shims_plain.specs.declared.parts.ShimImport.{ShimImport}
+use Rattle.cm_shims_plain.specs.Trees as trees
+use Rattle.cm_shims_plain.specs.Trees.{ShimSectionTree}
 use Rattle.cm_shims_plain.specs.Instantiated.{Given, argument, type_argument}
 
 -- What each index of a type stands for in the shim, its place stands for in the component.

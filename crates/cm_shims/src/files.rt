@@ -14,7 +14,7 @@ use std::alloc::Global;
 
 /// The plain components that files stand for, in order, with what their shims say.
 ///
-/// `Read` has the first file that is not read as a plain component (`cm_shims::read`); `Memory`
+/// `Read` has the first file that is not read as a plain component (`crate::read`); `Memory`
 /// comes where there is none for the list of components.
 pub fn read_files(alloc: Global, files: &[&[u8]]) -> Result<Vec<Shimmed>, FilesFault>
     ensures read { IfOk result (λ cs.
@@ -34,7 +34,7 @@ pub fn read_files(alloc: Global, files: &[&[u8]]) -> Result<Vec<Shimmed>, FilesF
 /// The plain components of files as valid ones, in order, which have the types that the files'
 /// shims say. They borrow what was read.
 ///
-/// Each is validated (`validate`), and then what its shims say of it is judged (`cm_shims::fits`),
+/// Each is validated (`validate`), and then what its shims say of it is judged (`crate::fits`),
 /// before the next one is. `Component` has the first file whose component is not valid, `Shims` the
 /// first one whose component has another type than its shims say, whichever stands first; `Memory`
 /// comes where there is none for the list of components.

@@ -5,7 +5,7 @@ ghost use Rattle.cm_types.specs.DefTypes.{DefTypeTree, DefValTypeTree, FuncTypeT
 ghost use Rattle.cm_validate_model.specs.Definitions.{TypeDef};
 ghost use Rattle.cm_validate_model.specs.Scopes.{func_def_of, value_def_of};
 ghost use Rattle.cm_validate_model.specs.Spaces.{Spaces};
-ghost use Rattle.cm_shims_model.specs.Trees.{ShimSectionTree};
+ghost use Rattle.cm_shims_plain.specs.Trees.{ShimSectionTree};
 ghost use Rattle.cm_shims_plain.specs.declared.wants.Want.{Want};
 ghost use Rattle.cm_shims_plain.specs.Instantiated.{Given, Instantiated, instantiated};
 ghost use Rattle.cm_shims_plain.specs.Instantiated.{instantiating};

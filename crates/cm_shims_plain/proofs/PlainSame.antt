@@ -9,8 +9,8 @@ use Rattle.cm_binary_model.specs.declared.externs.Import.{Import}
 use Rattle.cm_binary_model.specs.declared.instances.InlineExport.{InlineExport}
 use Rattle.cm_binary_model.specs.Trees as sections
 use Rattle.cm_binary_model.specs.Trees.{SectionTree, AliasTree}
-use Rattle.cm_shims_model.specs.Trees as trees
-use Rattle.cm_shims_model.specs.Trees.{ShimTree}
+use Rattle.cm_shims_plain.specs.Trees as trees
+use Rattle.cm_shims_plain.specs.Trees.{ShimTree}
 use Rattle.cm_shims_plain.specs.Origins.{Origin}
 use Rattle.cm_shims_plain.specs.Plain.{Items, Imports, Instances, Plain, def_step, alias_step, types_behind, is_of_type, imported, import_step, instance_step, item_fault, file_fault, section_step, plain_step, with_import, with_instances, with_section, no_items, no_imports, no_instances}
 use Rattle.cm_shims_plain.specs.Spaces.{Types, place}

@@ -6,9 +6,9 @@ use Rattle.cm_binary_grammar.specs.Faults.{flaw}
 use Rattle.cm_binary_forms.specs.declared.fault.DecodeFault.{DecodeFault}
 use Rattle.cm_binary_forms.specs.declared.fault.DecodeReason.{DecodeReason}
 use Rattle.cm_binary_forms.specs.declared.fault.DecodeReason.TheVariants.{Truncated}
-use Rattle.cm_shims_model.specs.File.{wide_file}
-use Rattle.cm_shims_model.specs.Trees.{WideSectionTree}
-use Rattle.cm_shims_model.proofs.LawfulFile.{wide_file_lawful}
+use Rattle.cm_shims_plain.specs.File.{wide_file}
+use Rattle.cm_shims_plain.specs.Trees.{WideSectionTree}
+use Rattle.cm_shims_plain.proofs.LawfulFile.{wide_file_lawful}
 use Rattle.cm_shims_plain.specs.declared.fault.ShimFault.{ShimFault}
 use Rattle.cm_shims_plain.specs.declared.fault.ShimFault.TheVariants as faults
 use Rattle.cm_shims_plain.specs.declared.reading.Shimmed.{Shimmed}

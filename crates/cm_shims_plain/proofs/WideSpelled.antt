@@ -23,16 +23,16 @@ use Rattle.cm_binary_forms.specs.Instances.{instance_item}
 use Rattle.cm_binary_forms.specs.Externs.{extern_desc_of, extern_desc, import_item}
 use Rattle.cm_binary_forms.specs.Sections.{contents, section, room_after, sections as section_list}
 use Rattle.cm_binary_forms.specs.File.{file, component}
-use Rattle.cm_shims_model.specs.Codes as wide
-use Rattle.cm_shims_model.specs.declared.codes.InstanceForm.TheVariants as wide_forms
-use Rattle.cm_shims_model.specs.declared.codes.WideDescForm.{WideDescForm}
-use Rattle.cm_shims_model.specs.declared.codes.WideDescForm.TheVariants as wide_desc_forms
-use Rattle.cm_shims_model.specs.declared.codes.WideKind.{WideKind}
-use Rattle.cm_shims_model.specs.declared.codes.WideKind.TheVariants as wide_kinds
-use Rattle.cm_shims_model.specs.Items.{wide_instance_of, wide_instance, wide_desc_of, wide_desc, wide_import}
-use Rattle.cm_shims_model.specs.Sections.{wide_contents, wide_section_of, wide_section, wide_room_after, wide_sections}
-use Rattle.cm_shims_model.specs.File.{wide_file, wide_component}
-use Rattle.cm_shims_model.specs.Trees as trees
+use Rattle.cm_shims_plain.specs.Codes as wide
+use Rattle.cm_shims_plain.specs.declared.codes.InstanceForm.TheVariants as wide_forms
+use Rattle.cm_shims_plain.specs.declared.codes.WideDescForm.{WideDescForm}
+use Rattle.cm_shims_plain.specs.declared.codes.WideDescForm.TheVariants as wide_desc_forms
+use Rattle.cm_shims_plain.specs.declared.codes.WideKind.{WideKind}
+use Rattle.cm_shims_plain.specs.declared.codes.WideKind.TheVariants as wide_kinds
+use Rattle.cm_shims_plain.specs.Items.{wide_instance_of, wide_instance, wide_desc_of, wide_desc, wide_import}
+use Rattle.cm_shims_plain.specs.Sections.{wide_contents, wide_section_of, wide_section, wide_room_after, wide_sections}
+use Rattle.cm_shims_plain.specs.File.{wide_file, wide_component}
+use Rattle.cm_shims_plain.specs.Trees as trees
 use Rattle.cm_shims_plain.specs.Widened.{widened, widened_desc, widened_import}
 
 -- ---- lists of items

@@ -15,11 +15,11 @@ use Rattle.cm_binary_model.specs.declared.instances.InstanceExportSort.{Instance
 use Rattle.cm_binary_model.specs.declared.instances.InstanceExportSort.TheVariants as sorts
 use Rattle.cm_binary_model.specs.Trees as sections
 use Rattle.cm_binary_model.specs.Trees.{SectionTree}
-use Rattle.cm_shims_model.specs.declared.parts.Argument.{Argument}
-use Rattle.cm_shims_model.specs.declared.parts.ShimExport.{ShimExport}
-use Rattle.cm_shims_model.specs.declared.parts.ShimImport.{ShimImport}
-use Rattle.cm_shims_model.specs.Trees as trees
-use Rattle.cm_shims_model.specs.Trees.{ShimSectionTree}
+use Rattle.cm_shims_plain.specs.declared.parts.Argument.{Argument}
+use Rattle.cm_shims_plain.specs.declared.parts.ShimExport.{ShimExport}
+use Rattle.cm_shims_plain.specs.declared.parts.ShimImport.{ShimImport}
+use Rattle.cm_shims_plain.specs.Trees as trees
+use Rattle.cm_shims_plain.specs.Trees.{ShimSectionTree}
 use Rattle.cm_shims_plain.specs.declared.fault.ShimReason.{ShimReason}
 use Rattle.cm_shims_plain.specs.declared.fault.ShimReason.TheVariants.{MissingArgument, NoSuchType}
 use Rattle.cm_shims_plain.specs.declared.fault.ShimReason.TheVariants.{NoSuchFunc, OtherType}

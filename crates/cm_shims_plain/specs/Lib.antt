@@ -11,3 +11,9 @@ pub mod PlainViews
 pub mod Reading
 pub mod Widened
 pub mod Renaming
+pub mod Trees
+pub mod Codes
+pub mod Items
+pub mod Shims
+pub mod Sections
+pub mod File

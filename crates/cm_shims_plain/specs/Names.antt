@@ -9,10 +9,10 @@ use Rattle.cm_types.specs.declared.def_types.ExportDesc.TheVariants as descs
 use Rattle.cm_names.specs.Keys.{Key, first_key}
 use Rattle.cm_binary_model.specs.declared.instances.InstanceExportSort.{InstanceExportSort}
 use Rattle.cm_binary_model.specs.declared.instances.InstanceExportSort.TheVariants as sorts
-use Rattle.cm_shims_model.specs.declared.parts.Argument.{Argument}
-use Rattle.cm_shims_model.specs.declared.parts.ShimImport.{ShimImport}
-use Rattle.cm_shims_model.specs.Trees as trees
-use Rattle.cm_shims_model.specs.Trees.{ShimSectionTree}
+use Rattle.cm_shims_plain.specs.declared.parts.Argument.{Argument}
+use Rattle.cm_shims_plain.specs.declared.parts.ShimImport.{ShimImport}
+use Rattle.cm_shims_plain.specs.Trees as trees
+use Rattle.cm_shims_plain.specs.Trees.{ShimSectionTree}
 
 -- A sort, as a number.
 abbrev pub sort_key : InstanceExportSort → ℕ

@@ -14,12 +14,12 @@ use Rattle.cm_binary_model.specs.declared.instances.InstanceExportSort.TheVarian
 use Rattle.cm_binary_model.specs.declared.limits.TheConstants.{MAX_FILE_BYTES}
 use Rattle.cm_binary_model.specs.Trees as sections
 use Rattle.cm_binary_model.specs.Trees.{SectionTree, AliasTree, CanonTree}
-use Rattle.cm_shims_model.specs.declared.parts.Argument.{Argument}
-use Rattle.cm_shims_model.specs.declared.parts.WideDesc.{WideDesc}
-use Rattle.cm_shims_model.specs.declared.parts.WideDesc.TheVariants as wide_descs
-use Rattle.cm_shims_model.specs.declared.parts.WideImport.{WideImport}
-use Rattle.cm_shims_model.specs.Trees as trees
-use Rattle.cm_shims_model.specs.Trees.{ShimTree, WideInstanceTree, WideSectionTree}
+use Rattle.cm_shims_plain.specs.declared.parts.Argument.{Argument}
+use Rattle.cm_shims_plain.specs.declared.parts.WideDesc.{WideDesc}
+use Rattle.cm_shims_plain.specs.declared.parts.WideDesc.TheVariants as wide_descs
+use Rattle.cm_shims_plain.specs.declared.parts.WideImport.{WideImport}
+use Rattle.cm_shims_plain.specs.Trees as trees
+use Rattle.cm_shims_plain.specs.Trees.{ShimTree, WideInstanceTree, WideSectionTree}
 use Rattle.cm_shims_plain.specs.declared.fault.ItemFault.{ItemFault}
 use Rattle.cm_shims_plain.specs.declared.fault.PlainFault.{PlainFault}
 use Rattle.cm_shims_plain.specs.declared.fault.ShimReason.{ShimReason}

@@ -2,7 +2,7 @@
 use Rattle.std.specs.Prelude.{ℕ, map, Result, Ok, Err}
 use Rattle.cm_types.specs.DefTypes.{def_type_tree}
 use Rattle.cm_binary_model.specs.Trees.{instance_tree, section_tree}
-use Rattle.cm_shims_model.specs.Trees.{shim_tree}
+use Rattle.cm_shims_plain.specs.Trees.{shim_tree}
 use Rattle.cm_shims_plain.specs.declared.fault.ItemFault.{ItemFault}
 use Rattle.cm_shims_plain.specs.declared.fault.ShimReason.{ShimReason}
 use Rattle.cm_shims_plain.specs.declared.plain.StayingImports.{StayingImports}

@@ -8,8 +8,8 @@ use Rattle.cm_binary_model.specs.Trees.{SectionTree}
 use Rattle.cm_binary_forms.specs.declared.fault.DecodeFault.{DecodeFault}
 use Rattle.cm_binary_forms.specs.declared.fault.DecodeReason.{DecodeReason}
 use Rattle.cm_binary_forms.specs.declared.fault.DecodeReason.TheVariants.{Memory, Truncated}
-use Rattle.cm_shims_model.specs.File.{wide_file}
-use Rattle.cm_shims_model.specs.Trees.{WideSectionTree}
+use Rattle.cm_shims_plain.specs.File.{wide_file}
+use Rattle.cm_shims_plain.specs.Trees.{WideSectionTree}
 use Rattle.cm_shims_plain.specs.declared.fault.ShimFault.{ShimFault}
 use Rattle.cm_shims_plain.specs.declared.fault.ShimFault.TheVariants as faults
 use Rattle.cm_shims_plain.specs.declared.reading.Shimmed.{Shimmed}

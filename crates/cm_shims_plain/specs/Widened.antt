@@ -7,11 +7,11 @@ use Rattle.cm_binary_model.specs.declared.externs.ExternDesc.TheVariants as desc
 use Rattle.cm_binary_model.specs.declared.externs.Import.{Import}
 use Rattle.cm_binary_model.specs.Trees as sections
 use Rattle.cm_binary_model.specs.Trees.{SectionTree}
-use Rattle.cm_shims_model.specs.declared.parts.WideDesc.{WideDesc}
-use Rattle.cm_shims_model.specs.declared.parts.WideDesc.TheVariants as wide_descs
-use Rattle.cm_shims_model.specs.declared.parts.WideImport.{WideImport}
-use Rattle.cm_shims_model.specs.Trees as trees
-use Rattle.cm_shims_model.specs.Trees.{WideSectionTree}
+use Rattle.cm_shims_plain.specs.declared.parts.WideDesc.{WideDesc}
+use Rattle.cm_shims_plain.specs.declared.parts.WideDesc.TheVariants as wide_descs
+use Rattle.cm_shims_plain.specs.declared.parts.WideImport.{WideImport}
+use Rattle.cm_shims_plain.specs.Trees as trees
+use Rattle.cm_shims_plain.specs.Trees.{WideSectionTree}
 use Rattle.cm_shims_plain.specs.declared.fault.ShimFault.TheVariants as faults
 use Rattle.cm_shims_plain.specs.Origins.{Origin}
 use Rattle.cm_shims_plain.specs.Reading.{Outcome}

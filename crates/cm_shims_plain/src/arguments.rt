@@ -6,11 +6,11 @@ ghost use Rattle.cm_shims_plain.specs.Names.{argument_key};
 
 use crate::fault::ShimReason;
 use crate::names::{argument_keys, first_twice, sort_key};
+use crate::parts::Argument;
 use crate::spaces::{TypeSpace, type_at};
 use crate::stop::Stop;
 use cm_binary_model::InstanceExportSort;
 use cm_names::Keys;
-use cm_shims_model::Argument;
 use cm_types::ExternName;
 use std::alloc::Global;
 

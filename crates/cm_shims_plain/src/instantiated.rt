@@ -3,7 +3,7 @@
 ghost use Rattle.std.specs.Prelude.{◌≡◌, map};
 ghost use Rattle.cm_types.specs.DefTypes.{def_type_tree};
 ghost use Rattle.cm_binary_model.specs.declared.instances.InstanceExportSort.TheVariants as sorts;
-ghost use Rattle.cm_shims_model.specs.Trees.{shim_section_tree};
+ghost use Rattle.cm_shims_plain.specs.Trees.{shim_section_tree};
 ghost use Rattle.cm_shims_plain.specs.Instantiated.{export_step, exported, func_at, import_step};
 ghost use Rattle.cm_shims_plain.specs.Instantiated.{instantiated, instantiating, shim_step};
 ghost use Rattle.cm_shims_plain.specs.Instantiated.{type_step};
@@ -13,12 +13,12 @@ ghost use Rattle.cm_shims_plain.specs.Views.{given_of, instantiated_of};
 
 use crate::arguments::Arguments;
 use crate::fault::ShimReason;
+use crate::parts::{ShimExport, ShimImport, ShimSection};
 use crate::renumbered::renumbered_copy;
 use crate::spaces::{TypeSpace, type_at};
 use crate::stop::Stop;
 use crate::wants::Want;
 use cm_binary_model::{InlineExport, InstanceExportSort, Section};
-use cm_shims_model::{ShimExport, ShimImport, ShimSection};
 use cm_types::{DefType, ExportDesc, ExternName, TypeBound};
 use std::alloc::Global;
 

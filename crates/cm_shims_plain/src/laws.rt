@@ -4,7 +4,7 @@ ghost use Rattle.std.specs.Prelude.{◌≡◌, ◌<◌, ℕ, List, Ok, Some, len
 ghost use Rattle.cm_types.specs.DefTypes.{DefTypeTree};
 ghost use Rattle.cm_binary_model.specs.Trees.{SectionTree};
 ghost use Rattle.cm_binary_forms.specs.File.{Spells};
-ghost use Rattle.cm_shims_model.specs.Trees.{ShimSectionTree};
+ghost use Rattle.cm_shims_plain.specs.Trees.{ShimSectionTree};
 ghost use Rattle.cm_shims_plain.specs.declared.wants.Want.{Want};
 ghost use Rattle.cm_shims_plain.specs.Instantiated.{Given, Instantiated, instantiated};
 ghost use Rattle.cm_shims_plain.specs.Instantiated.{instantiating};

@@ -3,13 +3,13 @@
 ghost use Rattle.std.specs.Prelude.{◌≡◌, ◌++◌, [], IfOk, OnOk, map};
 ghost use Rattle.cm_names.specs.Keys.{key_view};
 ghost use Rattle.cm_names.specs.Listed.{listed};
-ghost use Rattle.cm_shims_model.specs.Trees.{shim_section_tree};
+ghost use Rattle.cm_shims_plain.specs.Trees.{shim_section_tree};
 ghost use Rattle.cm_shims_plain.specs.Names.{argument_key, first_twice, import_key, import_keys};
 ghost use Rattle.cm_shims_plain.specs.Names.{is_first, section_keys, sort_key, sort_of, twice_from};
 
+use crate::parts::{Argument, ShimImport, ShimSection};
 use cm_binary_model::InstanceExportSort;
 use cm_names::Keys;
-use cm_shims_model::{Argument, ShimImport, ShimSection};
 use cm_types::ExportDesc;
 use std::alloc::{AllocError, Global};
 

@@ -5,8 +5,8 @@ ghost use Rattle.std.specs.Prelude.{if◌then◌else◌};
 ghost use Rattle.cm_binary_grammar.specs.Whole.{state_after};
 ghost use Rattle.cm_types.specs.DefTypes.{def_type_tree};
 ghost use Rattle.cm_binary_model.specs.Trees.{alias_tree, section_tree};
-ghost use Rattle.cm_shims_model.specs.Trees as wide;
-ghost use Rattle.cm_shims_model.specs.Trees.{shim_tree, wide_instance_tree, wide_section_tree};
+ghost use Rattle.cm_shims_plain.specs.Trees as wide;
+ghost use Rattle.cm_shims_plain.specs.Trees.{shim_tree, wide_instance_tree, wide_section_tree};
 ghost use Rattle.cm_shims_plain.specs.Instantiated.{define_type};
 ghost use Rattle.cm_shims_plain.specs.Plain.{alias_step, def_step, import_step, instance_step};
 ghost use Rattle.cm_shims_plain.specs.Origins.{origin_of};
@@ -22,6 +22,7 @@ use crate::arguments::Arguments;
 use crate::fault::{ItemFault, PlainFault, ShimReason};
 use crate::instantiated::Instantiated;
 use crate::names::import_twice;
+use crate::parts::{Argument, Shim, WideDesc, WideImport, WideInstance, WideSection};
 use crate::places::Source;
 use crate::renumbered::{renumbered_alias, renumbered_all, renumbered_canons, renumbered_def};
 use crate::spaces::{TypeSpace, type_at};
@@ -30,7 +31,6 @@ use crate::wants::Want;
 use cm_binary_model::{
     Alias, ExternDesc, Import, InlineExport, Instance, InstanceExportSort, MAX_FILE_BYTES, Section,
 };
-use cm_shims_model::{Argument, Shim, WideDesc, WideImport, WideInstance, WideSection};
 use cm_types::DefType;
 use std::alloc::{AllocError, Global};
 

@@ -4,8 +4,8 @@ ghost use Rattle.std.specs.Prelude.{◌⊎◌, ◌≡◌, List, Result, map};
 ghost use Rattle.cm_binary_grammar.specs.declared.fault.End.TheVariants as end;
 ghost use Rattle.cm_binary_model.specs.Trees.{SectionTree};
 ghost use Rattle.cm_binary_forms.specs.declared.fault.DecodeReason.TheVariants as reasons;
-ghost use Rattle.cm_shims_model.specs.File.{wide_file};
-ghost use Rattle.cm_shims_model.specs.Trees.{wide_section_tree};
+ghost use Rattle.cm_shims_plain.specs.File.{wide_file};
+ghost use Rattle.cm_shims_plain.specs.Trees.{wide_section_tree};
 ghost use Rattle.cm_shims_plain.specs.declared.fault.ShimFault.{ShimFault};
 ghost use Rattle.cm_shims_plain.specs.declared.wants.Want.{Want};
 ghost use Rattle.cm_shims_plain.specs.Origins.{Origin};
@@ -13,6 +13,8 @@ ghost use Rattle.cm_shims_plain.specs.Reading.{ComesTo, IsMemory, IsReadAs, comp
 ghost use Rattle.cm_shims_plain.specs.Reading.{memory_fault, outcome};
 
 use crate::fault::ShimFault;
+use crate::file::read_wide_file;
+use crate::parts::WideSection;
 use crate::places::Places;
 use crate::plain::plain_of_file;
 use crate::stop::Stop;
@@ -20,7 +22,6 @@ use crate::wants::Want;
 use cm_binary_forms::{DecodeFault, DecodeReason};
 use cm_binary_grammar::ReadError;
 use cm_binary_model::Component;
-use cm_shims_model::{WideSection, read_wide_file};
 use std::alloc::Global;
 
 /// What a file that may have shims is read as.

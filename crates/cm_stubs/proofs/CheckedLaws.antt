@@ -6,8 +6,8 @@ use Rattle.std.specs.Prelude.{slice_get, take}
 use Rattle.std.specs.List.{AllByRecursion}
 use Rattle.std.specs.Option.{option_map, option_map_or}
 use Rattle.cm_binary_model.specs.Trees.{SectionTree}
-use Rattle.cm_validate_signature.specs.cm_validate_spaces.Checked.{sections_in}
-use Rattle.cm_validate_signature.specs.cm_validate_spaces.declared.checked.Checked.{Checked}
+use Rattle.cm_validate.specs.cm_validate_spaces.Checked.{sections_in}
+use Rattle.cm_validate.specs.cm_validate_spaces.declared.checked.Checked.{Checked}
 use Rattle.cm_validate_model.specs.Spaces.{Spaces, spaces_of}
 use Rattle.cm_stubs.specs.Stubs.{export_count, set_of}
 use Rattle.cm_stubs.specs.Sets.{checked_set, sections_of}

@@ -1,2 +1,1 @@
-pub mod UsedLaws
 pub mod CheckedLaws

@@ -2,8 +2,8 @@
 use Rattle.std.specs.Prelude.{List, map}
 use Rattle.cm_binary_model.specs.Trees.{SectionTree}
 use Rattle.cm_validate_model.specs.Spaces.{Spaces}
-use Rattle.cm_validate_signature.specs.cm_validate_spaces.Checked.{sections_in}
-use Rattle.cm_validate_signature.specs.cm_validate_spaces.declared.checked.Checked.{Checked}
+use Rattle.cm_validate.specs.cm_validate_spaces.Checked.{sections_in}
+use Rattle.cm_validate.specs.cm_validate_spaces.declared.checked.Checked.{Checked}
 use Rattle.cm_stubs.specs.Stubs.{set_of}
 
 -- the sections of components, and the index spaces of each

@@ -7,13 +7,13 @@ ghost use Rattle.cm_stubs.specs.Stubs.{IsCaller, IsProvider, LinksOver, LinksUnd
 ghost use Rattle.cm_stubs.specs.Stubs.{export_count};
 ghost use Rattle.cm_match.specs.Linked.{set_in};
 ghost use Rattle.cm_stubs.specs.Sets.{checked_set, sections_of};
-ghost use Rattle.cm_validate_signature.specs.cm_validate_spaces.Checked.{sections_in};
+ghost use Rattle.cm_validate.specs.cm_validate_spaces.Checked.{sections_in};
 
 use crate::fault::StubFault;
 use crate::used::are_used;
 use cm_binary_model::Component;
 use cm_match::{Checked, Linked, link};
-use cm_validate_signature::validate;
+use cm_validate::validate;
 use std::alloc::Global;
 
 /// The components as valid ones, in order.

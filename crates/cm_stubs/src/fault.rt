@@ -6,7 +6,7 @@ ghost use Rattle.cm_stubs.specs.declared.fault.StubFault.TheVariants as stub_fau
 
 use cm_match::LinkFault;
 use cm_stubs_written::DraftFault;
-use cm_validate_signature::ValidFault;
+use cm_validate::ValidFault;
 use std::alloc::{AllocError, AllocFailed};
 use thiserror::Error;
 

@@ -7,6 +7,6 @@ mod stubs;
 mod used;
 
 pub use cm_binary_model::Component;
-pub use cm_types_signatures::Signature;
+pub use cm_types_arena::Signature;
 pub use fault::StubFault;
 pub use stubs::{caller, caller_for, provider, provider_for};

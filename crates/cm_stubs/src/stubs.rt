@@ -11,8 +11,8 @@ use cm_binary_model::Component;
 use cm_match::{Checked, ExportEntry, LinkFault, LinkReason};
 use cm_stubs_written::{Asked, caller_written, names_of, provider_written};
 use cm_types::ExternName;
-use cm_types_signatures::Signature;
-use cm_validate_signature::{signature, validate};
+use cm_types_arena::Signature;
+use cm_validate::{signature, validate};
 use std::alloc::{AllocError, Global};
 
 /// What these import, list by list, and the names of what they export.

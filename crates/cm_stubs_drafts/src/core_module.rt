@@ -1,5 +1,6 @@
 //! Core modules of stubs: what they import and export by name (the core specification, "Modules").
 
+use crate::lists::put;
 use cm_binary_model::MODULE_PREAMBLE;
 use cm_layout::FlatFunc;
 use cm_leb::formats::write_count;
@@ -157,16 +158,16 @@ impl CoreModule {
     ) -> Result<(), AllocError> {
         let module = String::from_str(self.alloc, module)?;
         let name = String::from_str(self.alloc, name)?;
-        self.types.push(ty)?;
-        self.imports.push(CoreImport { module, name })?;
+        put(&mut self.types, ty)?;
+        put(&mut self.imports, CoreImport { module, name })?;
         Ok(())
     }
 
     /// Adds a function that is exported.
     pub(crate) fn export(&mut self, name: &str, ty: CoreType) -> Result<(), AllocError> {
         let name = String::from_str(self.alloc, name)?;
-        self.types.push(ty)?;
-        self.exports.push(name)?;
+        put(&mut self.types, ty)?;
+        put(&mut self.exports, name)?;
         Ok(())
     }
 

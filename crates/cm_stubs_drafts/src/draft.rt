@@ -1,6 +1,7 @@
 //! A component while it is written: its sections so far, and how much each index space has.
 
 use crate::fault::DraftFault;
+use crate::lists::{one, put};
 use cm_binary_model::{
     Alias, Canon, Component, CoreInstance, CoreSort, Export, ExportSort, ExternDesc, Import,
     Instance, InstanceExportSort, MAX_FILE_BYTES, MAX_TYPES, Section,
@@ -107,10 +108,10 @@ impl Draft {
     pub fn core_instance(&mut self, instance: CoreInstance) -> Result<u32, DraftFault> {
         self.spend(1)?;
         match self.sections.last_mut() {
-            Some(Section::CoreInstances(items)) => items.push(instance)?,
+            Some(Section::CoreInstances(items)) => put(items, instance)?,
             _ => {
-                let items = vec![in self.alloc; instance]?;
-                self.sections.push(Section::CoreInstances(items))?;
+                let items = one(self.alloc, instance)?;
+                put(&mut self.sections, Section::CoreInstances(items))?;
             }
         }
         self.core_instances.next()
@@ -120,10 +121,10 @@ impl Draft {
     fn alias(&mut self, alias: Alias) -> Result<(), DraftFault> {
         self.spend(1)?;
         match self.sections.last_mut() {
-            Some(Section::Aliases(items)) => items.push(alias)?,
+            Some(Section::Aliases(items)) => put(items, alias)?,
             _ => {
-                let items = vec![in self.alloc; alias]?;
-                self.sections.push(Section::Aliases(items))?;
+                let items = one(self.alloc, alias)?;
+                put(&mut self.sections, Section::Aliases(items))?;
             }
         }
         Ok(())
@@ -174,10 +175,10 @@ impl Draft {
         self.spend(1)?;
         self.spend_type()?;
         match self.sections.last_mut() {
-            Some(Section::Types(items)) => items.push(def)?,
+            Some(Section::Types(items)) => put(items, def)?,
             _ => {
-                let items = vec![in self.alloc; def]?;
-                self.sections.push(Section::Types(items))?;
+                let items = one(self.alloc, def)?;
+                put(&mut self.sections, Section::Types(items))?;
             }
         }
         self.types.next()
@@ -222,7 +223,7 @@ impl Draft {
     fn declaration(&mut self, declaration: Declaration) -> Result<(), DraftFault> {
         self.spend(1)?;
         if let Some(declared) = &mut self.declared {
-            declared.declarations.push(declaration)?;
+            put(&mut declared.declarations, declaration)?;
         }
         Ok(())
     }
@@ -282,10 +283,10 @@ impl Draft {
     fn canon(&mut self, canon: Canon) -> Result<(), DraftFault> {
         self.spend(1)?;
         match self.sections.last_mut() {
-            Some(Section::Canons(items)) => items.push(canon)?,
+            Some(Section::Canons(items)) => put(items, canon)?,
             _ => {
-                let items = vec![in self.alloc; canon]?;
-                self.sections.push(Section::Canons(items))?;
+                let items = one(self.alloc, canon)?;
+                put(&mut self.sections, Section::Canons(items))?;
             }
         }
         Ok(())
@@ -307,10 +308,10 @@ impl Draft {
     fn import(&mut self, import: Import) -> Result<(), DraftFault> {
         self.spend(import.name.as_str().len())?;
         match self.sections.last_mut() {
-            Some(Section::Imports(items)) => items.push(import)?,
+            Some(Section::Imports(items)) => put(items, import)?,
             _ => {
-                let items = vec![in self.alloc; import]?;
-                self.sections.push(Section::Imports(items))?;
+                let items = one(self.alloc, import)?;
+                put(&mut self.sections, Section::Imports(items))?;
             }
         }
         Ok(())
@@ -334,10 +335,10 @@ impl Draft {
     pub fn instance(&mut self, instance: Instance) -> Result<u32, DraftFault> {
         self.spend(1)?;
         match self.sections.last_mut() {
-            Some(Section::Instances(items)) => items.push(instance)?,
+            Some(Section::Instances(items)) => put(items, instance)?,
             _ => {
-                let items = vec![in self.alloc; instance]?;
-                self.sections.push(Section::Instances(items))?;
+                let items = one(self.alloc, instance)?;
+                put(&mut self.sections, Section::Instances(items))?;
             }
         }
         self.instances.next()
@@ -353,10 +354,10 @@ impl Draft {
         self.spend(name.as_str().len())?;
         let export = Export { name, sort, index };
         match self.sections.last_mut() {
-            Some(Section::Exports(items)) => items.push(export)?,
+            Some(Section::Exports(items)) => put(items, export)?,
             _ => {
-                let items = vec![in self.alloc; export]?;
-                self.sections.push(Section::Exports(items))?;
+                let items = one(self.alloc, export)?;
+                put(&mut self.sections, Section::Exports(items))?;
             }
         }
         Ok(())
@@ -371,10 +372,10 @@ impl Draft {
         } = self;
         let mut sections = Vec::with_capacity(alloc, behind.len())?;
         for module in modules {
-            sections.push(Section::CoreModule(module))?;
+            put(&mut sections, Section::CoreModule(module))?;
         }
         for section in behind {
-            sections.push(section)?;
+            put(&mut sections, section)?;
         }
         Ok(Component::new(sections)?)
     }

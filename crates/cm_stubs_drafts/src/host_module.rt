@@ -3,6 +3,7 @@
 use crate::core_module::{BASE, CoreModule, CoreType, MEMORY, MemoryIs, REALLOC};
 use crate::draft::Draft;
 use crate::fault::DraftFault;
+use crate::lists::put;
 use cm_binary_model::{
     CanonOption, Component, CoreInlineExport, CoreInstance, CoreInstantiationArg, CoreSort,
 };
@@ -93,7 +94,7 @@ impl HostModules {
     pub fn begin_imports(&mut self, draft: &mut Draft, module: String) -> Result<(), DraftFault> {
         draft.spend(module.len())?;
         let funcs = Vec::new(self.alloc);
-        self.imports.push(CoreImports { module, funcs })?;
+        put(&mut self.imports, CoreImports { module, funcs })?;
         Ok(())
     }
 
@@ -145,8 +146,8 @@ impl HostModules {
     /// The component of both modules and of what was written behind them.
     pub fn component(&self, draft: Draft) -> Result<Component, DraftFault> {
         let mut modules = Vec::new(self.alloc);
-        modules.push(self.base.bytes()?)?;
-        modules.push(self.host.bytes()?)?;
+        put(&mut modules, self.base.bytes()?)?;
+        put(&mut modules, self.host.bytes()?)?;
         draft.component(modules)
     }
 }

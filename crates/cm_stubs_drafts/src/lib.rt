@@ -6,6 +6,7 @@ mod draft;
 mod fault;
 mod handles;
 mod host_module;
+mod lists;
 mod types;
 
 pub use core_module::CoreType;

@@ -6,6 +6,7 @@ ghost use Rattle.cm_types_arena.specs.Places.{types_of};
 use crate::draft::Draft;
 use crate::fault::DraftFault;
 use crate::handles::{Handles, ResourceKey};
+use crate::lists::put;
 use cm_types::{
     Case, CaseType, DefValType, Field, FuncType, Label, LabeledValType, MAX_NODES, PrimValType,
     ResourceId, TypeNode, ValType,
@@ -89,7 +90,7 @@ fn labeled(
     let mut labeled = Vec::with_capacity(alloc, parts.len())?;
     for (field, ty) in fields.iter().zip(parts) {
         let label = field.label.clone()?;
-        labeled.push(LabeledValType { label, ty: *ty })?;
+        put(&mut labeled, LabeledValType { label, ty: *ty })?;
     }
     Ok(labeled)
 }
@@ -108,7 +109,7 @@ fn cases_of(
             Some(_) => left.next().copied(),
             None => None,
         };
-        written.push(CaseType { label, payload })?;
+        put(&mut written, CaseType { label, payload })?;
     }
     Ok(written)
 }
@@ -117,7 +118,7 @@ fn cases_of(
 fn labels_of(alloc: Global, labels: &[Label]) -> Result<Vec<Label>, AllocError> {
     let mut copies = Vec::with_capacity(alloc, labels.len())?;
     for label in labels {
-        copies.push(label.clone()?)?;
+        put(&mut copies, label.clone()?)?;
     }
     Ok(copies)
 }

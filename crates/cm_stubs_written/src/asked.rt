@@ -3,8 +3,7 @@
 use cm_binary_model::MAX_FILE_BYTES;
 use cm_stubs_drafts::DraftFault;
 use cm_types::{ExternName, ExternNameForm, NameFault};
-use cm_types_arena::{Extern, ExternDesc, Types};
-use cm_types_signatures::{Desc, Externs, Items, NamedDesc};
+use cm_types_arena::{Desc, Extern, ExternDesc, Externs, Items, NamedDesc, Types};
 use std::alloc::{AllocError, Global};
 
 /// Imports or exports in order, with the arena of their types.

@@ -7,8 +7,7 @@ use cm_stubs_drafts::{
     BroughtResource, CoreType, Draft, DraftFault, HostModules, ResourceKey, TypeKey, Writer,
 };
 use cm_types::{ExternName, TypeBound};
-use cm_types_arena::{ItemDesc, Types};
-use cm_types_signatures::{Desc, Items, NamedDesc};
+use cm_types_arena::{Desc, ItemDesc, Items, NamedDesc, Types};
 use std::alloc::Global;
 
 /// The number of the only list that is asked.

@@ -3,14 +3,11 @@
 use crate::playing::play;
 use cm_machine::Set;
 use cm_tool_commands::{
-    Asked, Fault, Files, Linked, Outcome, Request, SetSize, Usage, WordsFault, load_files,
+    Asked, Fault, Files, LIMIT, Linked, Outcome, Request, SetSize, Usage, WordsFault, load_files,
     load_script, report, run_check, run_conform, run_link, run_show,
 };
 use std::alloc::Global;
 use std::io::Write;
-
-/// The most moves of a drive.
-pub const LIMIT: u64 = 1_000_000;
 
 /// Runs the command that the words ask for, and answers its exit status: 0 where it is done, 1
 /// where something was refused, 2 where the words are no command or ask for help, 3 where a drive

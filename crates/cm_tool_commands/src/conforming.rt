@@ -9,7 +9,7 @@ use cm_tool_files::{
 use cm_tool_help_texts::{wit_help, world_help};
 use cm_tool_help_types::conform_help;
 use cm_tool_show::ShowFault;
-use cm_validate_signature::signature;
+use cm_validate::signature;
 use cm_wit_conforms::ConformFault;
 use std::alloc::Global;
 

@@ -6,9 +6,12 @@
 
 mod commands;
 mod conforming;
+mod disk;
 mod fault;
+mod limit;
 mod loading;
 mod outcome;
+mod words;
 
 pub use cm_match::{LinkFault, Linked, MAX_COMPONENTS, link};
 pub use cm_tool_files::{
@@ -18,9 +21,12 @@ pub use cm_tool_files::{
 pub use cm_tool_lines::{Drive, SetSize, write_event, write_plan};
 pub use cm_tool_script::{Script, ScriptFault, ScriptGuest, script_bytes};
 pub use cm_tool_words::{Request, Usage, WordsFault};
-pub use cm_validate_signature::{ValidFault, signature};
+pub use cm_validate::{ValidFault, signature};
 pub use commands::{run_check, run_conform, run_link, run_show};
 pub use conforming::Asked;
+pub use disk::Disk;
 pub use fault::{Fault, report};
+pub use limit::LIMIT;
 pub use loading::{LoadedFiles, load_files, load_script};
 pub use outcome::Outcome;
+pub use words::words_of;

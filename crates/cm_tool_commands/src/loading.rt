@@ -10,7 +10,7 @@ use cm_tool_help_texts::{bytes_help, valid_help};
 use cm_tool_help_types::link_help;
 use cm_tool_lines::BadLine;
 use cm_tool_script::Script;
-use cm_validate_signature::signature;
+use cm_validate::signature;
 use std::alloc::{AllocError, Global};
 
 /// The components of some files, in order: those before the first file that cannot be read or is

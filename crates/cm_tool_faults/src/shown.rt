@@ -3,11 +3,10 @@
 use cm_binary::{Component, DecodeFault, decode};
 use cm_match_model::{LinkFault, LinkReason};
 use cm_tool_files::{BadFile, FileReason, Unfit, UnfitReason};
-use cm_tool_help_texts::{bytes_help, valid_help, wit_help, world_help};
+use cm_tool_help_texts::{Escaped, bytes_help, valid_help, wit_help, world_help};
 use cm_tool_help_types::{conform_help, link_help};
 use cm_tool_show::ShowFault;
-use cm_tool_text::Escaped;
-use cm_types_signatures::Signature;
+use cm_types_arena::Signature;
 use cm_validate_model::ValidFault;
 use cm_wit_conforms::ConformFault;
 use cm_wit_package::WitFault;

@@ -6,7 +6,7 @@ use Rattle.cm_wit_conforms.specs.Conformance.{Conforms, IsFirstFault}
 use Rattle.cm_wit_conforms.specs.declared.fault.ConformReason.TheVariants as conform
 use Rattle.cm_wit_package.specs.Packages.{IsRefused}
 use Rattle.cm_wit_package.specs.Texts.{IsPackage}
-use Rattle.cm_wit_signature.specs.cm_wit_items.Faults.{IsFaultOfWorld, IsWorldSignature}
+use Rattle.cm_wit_signature.specs.Faults.{IsFaultOfWorld, IsWorldSignature}
 use Rattle.cm_wit_reading.specs.Trees.{File}
 use Rattle.cm_tool_files.specs.declared.unfit.UnfitReason.{UnfitReason}
 use Rattle.cm_tool_files.specs.declared.unfit.UnfitReason.TheVariants as reason

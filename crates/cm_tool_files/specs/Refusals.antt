@@ -6,7 +6,7 @@ use Rattle.cm_binary_forms.specs.File.{FirstFault}
 use Rattle.cm_binary_forms.specs.declared.fault.DecodeReason.TheVariants as decoding
 use Rattle.cm_validate_model.specs.declared.fault.ValidReason.TheVariants as validity
 use Rattle.cm_validate_model.specs.Valid.{IsFaultOf}
-use Rattle.cm_validate_signature.specs.cm_validate_spaces.Walks.{IsFineBefore}
+use Rattle.cm_validate.specs.cm_validate_spaces.Walks.{IsFineBefore}
 use Rattle.cm_tool_files.specs.declared.bad_file.FileReason.{FileReason}
 use Rattle.cm_tool_files.specs.declared.bad_file.FileReason.TheVariants as reason
 use Rattle.cm_tool_files.specs.declared.text_fault.TextFileFault.TheVariants as texts

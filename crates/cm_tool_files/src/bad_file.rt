@@ -7,8 +7,8 @@ use crate::files::FileFault;
 use crate::text_fault::TextFileFault;
 use crate::words::{write_decode_fault, write_file_fault};
 use cm_binary::DecodeFault;
-use cm_tool_text::Escaped;
-use cm_validate_signature::ValidFault;
+use cm_tool_help_texts::Escaped;
+use cm_validate::ValidFault;
 use std::fmt;
 
 /// Why a file is not what a command wants.

@@ -1,13 +1,13 @@
 //! Whether a component fits a world.
 
 ghost use Rattle.std.specs.Prelude.{IfErr, OnOk};
-ghost use Rattle.cm_validate_signature.specs.cm_validate_spaces.Checked.{spaces_in};
-ghost use Rattle.cm_validate_signature.specs.Exports.{signature_in};
+ghost use Rattle.cm_validate.specs.cm_validate_spaces.Checked.{spaces_in};
+ghost use Rattle.cm_validate.specs.Exports.{signature_in};
 ghost use Rattle.cm_tool_files.specs.Conforming.{ConformsTo, IsUnfit};
 
 use crate::unfit::UnfitReason;
 use crate::worlds::world_of;
-use cm_validate_signature::{Checked, signature};
+use cm_validate::{Checked, signature};
 use cm_wit_conforms::conforms;
 use std::alloc::Global;
 

@@ -14,7 +14,7 @@ mod words;
 mod worlds;
 
 pub use bad_file::{BadFile, FileReason};
-pub use cm_validate_signature::Checked;
+pub use cm_validate::Checked;
 pub use conforming::conform_component;
 pub use files::{FileFault, Files, MAX_READ};
 pub use loading::{checked_of, component_of, load, read_file, text_of};

@@ -5,7 +5,7 @@ ghost use Rattle.std.specs.Str.{IsUtf8};
 ghost use Rattle.cm_binary_model.specs.Trees.{SectionTree};
 ghost use Rattle.cm_binary_forms.specs.File.{Spells};
 ghost use Rattle.cm_validate_model.specs.Valid.{IsValid};
-ghost use Rattle.cm_validate_signature.specs.cm_validate_spaces.Checked.{sections_in};
+ghost use Rattle.cm_validate.specs.cm_validate_spaces.Checked.{sections_in};
 ghost use Rattle.cm_tool_files.specs.Refusals.{IsNoComponent, IsNoText, IsNotValid};
 ghost use Rattle.cm_tool_files.specs.Refusals.{IsWantOfMemory};
 ghost use Rattle.cm_tool_files.specs.declared.text_fault.TheConstants.{MAX_TEXT};
@@ -14,7 +14,7 @@ use crate::bad_file::{BadFile, FileReason};
 use crate::files::Files;
 use crate::text_fault::{MAX_TEXT, TextFileFault};
 use cm_binary::{Component, decode};
-use cm_validate_signature::{Checked, validate};
+use cm_validate::{Checked, validate};
 use std::alloc::Global;
 
 /// The bytes of a file.

@@ -2,15 +2,15 @@
 
 ghost use Rattle.std.specs.Prelude.{◌≡◌, ◌≤◌, ◌<◌, IfOk, IsErrOf, length};
 ghost use Rattle.std.specs.String.{string_bytes};
-ghost use Rattle.cm_validate_signature.specs.cm_validate_spaces.Checked.{spaces_in};
-ghost use Rattle.cm_validate_signature.specs.Exports.{signature_in};
+ghost use Rattle.cm_validate.specs.cm_validate_spaces.Checked.{spaces_in};
+ghost use Rattle.cm_validate.specs.Exports.{signature_in};
 ghost use Rattle.cm_tool_show.specs.Shown.{shown};
 ghost use Rattle.cm_tool_show.specs.declared.fault.ShowFault.TheVariants as fault;
 ghost use Rattle.cm_tool_show.specs.declared.page.TheConstants.{MAX_SHOWN};
 
+use cm_tool_help_texts::Escaped;
 use cm_tool_show::{ShowFault, show};
-use cm_tool_text::Escaped;
-use cm_validate_signature::{Checked, signature};
+use cm_validate::{Checked, signature};
 use std::alloc::Global;
 use std::fmt;
 

@@ -3,7 +3,7 @@
 ghost use Rattle.std.specs.Prelude.{◌≡◌};
 ghost use Rattle.cm_tool_files.specs.declared.unfit.UnfitReason.TheVariants as reason;
 
-use cm_tool_text::Escaped;
+use cm_tool_help_texts::Escaped;
 use cm_wit_conforms::ConformFault;
 use cm_wit_package::WitFault;
 use cm_wit_worlds::WorldFault;

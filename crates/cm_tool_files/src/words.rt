@@ -2,7 +2,7 @@
 
 use crate::files::FileFault;
 use cm_binary::{DecodeFault, DecodeReason};
-use cm_tool_text::Escaped;
+use cm_tool_help_texts::Escaped;
 use std::fmt;
 
 /// Writes why a file cannot be read.

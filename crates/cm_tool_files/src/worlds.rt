@@ -2,11 +2,11 @@
 
 ghost use Rattle.std.specs.Prelude.{IfErr, IfOk};
 ghost use Rattle.cm_types.specs.Signatures.{SignatureTy};
-ghost use Rattle.cm_types_signatures.specs.Signatures.{signature_of};
+ghost use Rattle.cm_types_arena.specs.Signatures.{signature_of};
 ghost use Rattle.cm_tool_files.specs.Conforming.{HasWorld, IsUnfit};
 
 use crate::unfit::UnfitReason;
-use cm_types_signatures::Signature;
+use cm_types_arena::Signature;
 use cm_wit_package::parse;
 use cm_wit_signature::world_signature;
 use std::alloc::Global;

@@ -1,7 +1,7 @@
 //! What stands in bytes that are no component file.
 
+use crate::escaped::Escaped;
 use cm_binary_forms::{DecodeFault, DecodeReason, Feature};
-use cm_tool_text::Escaped;
 use cm_types::{ExternName, Label, NameFault};
 use std::alloc::{AllocError, Global};
 use std::fmt::Write;

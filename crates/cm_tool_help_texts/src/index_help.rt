@@ -1,11 +1,11 @@
 //! The index of an item that nothing before it has.
 
 use crate::counts::{Counts, Sort, core_sort, export_sort, inline_sort};
+use crate::escaped::Escaped;
 use cm_binary_model::{
     Alias, Canon, CanonOption, CoreInlineExport, CoreInstance, CoreInstantiationArg, Export,
     ExternDesc, Import, Instance, Section,
 };
-use cm_tool_text::Escaped;
 use std::alloc::{AllocError, Global};
 
 /// An item of a component: its section and its place there.

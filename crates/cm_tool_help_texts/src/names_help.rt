@@ -1,7 +1,7 @@
 //! The name that stands twice in a list.
 
+use crate::escaped::Escaped;
 use cm_binary_model::{CoreInstance, InlineExport, Section};
-use cm_tool_text::Escaped;
 use cm_types::{CaseType, Declaration, DefType, DefValType, Label, LabeledValType};
 use std::alloc::{AllocError, Global};
 use std::collections::BTreeSet;

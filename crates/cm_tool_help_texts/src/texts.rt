@@ -1,8 +1,9 @@
 //! What stands in a WIT text where it is refused.
 
+use crate::escaped::Escaped;
 use crate::expected::{expected, fault_in};
+use crate::position::Position;
 use crate::wit_token::{ends_with, front_at, rest_at, token_of};
-use cm_tool_text::{Escaped, Position};
 use cm_wit_package::{WitFault, WitReason};
 use std::alloc::{AllocError, Global};
 use std::fmt::Write;

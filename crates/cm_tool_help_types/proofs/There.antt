@@ -4,8 +4,8 @@ use Rattle.std.proofs.lemmas.List.Folds.{list_all_at}
 use Rattle.std.specs.List.{list_all}
 use Rattle.cm_types_arena.specs.Instances.{are_items_there, is_desc_there}
 use Rattle.cm_types_arena.specs.declared.instances.Item.{Item}
-use Rattle.cm_types_signatures.specs.Shared.{are_shared_items_there}
-use Rattle.cm_types_signatures.specs.declared.shared.SharedItem.{SharedItem}
+use Rattle.cm_types_arena.specs.Shared.{are_shared_items_there}
+use Rattle.cm_types_arena.specs.declared.shared.SharedItem.{SharedItem}
 
 all_at : {A : Type 0} (p : A → Bool) (xs : List A) (i : ℕ) (x : A) → list_all p xs ≡ true → i < length xs → x ≡ get_or xs i x → p x ≡ true
 all_at p xs i x all lt e = by (p x) refl

@@ -3,15 +3,14 @@
 ghost use Rattle.std.specs.Prelude.{◌≡◌, ◌<◌, length, true};
 ghost use Rattle.cm_types_arena.specs.Places.{funcs_of, types_of};
 ghost use Rattle.cm_types_arena.specs.Instances.{are_items_there};
-ghost use Rattle.cm_types_signatures.specs.Listed.{are_in, is_desc_in, is_item_in};
-ghost use Rattle.cm_types_signatures.specs.Shared.{are_shared_items_there};
+ghost use Rattle.cm_types_arena.specs.Listed.{are_in, is_desc_in, is_item_in};
+ghost use Rattle.cm_types_arena.specs.Shared.{are_shared_items_there};
 
 use crate::blocks::Side;
 use crate::spots::{Spot, list_of};
 use cm_tool_show::{Counting, MAX_SHOWN, Page, ShowFault};
 use cm_types::{ResourceId, TypeNode};
-use cm_types_arena::{Item, ItemDesc, Move, Types};
-use cm_types_signatures::{Desc, Externs, Items, SharedItem, Signature};
+use cm_types_arena::{Desc, Externs, Item, ItemDesc, Items, Move, SharedItem, Signature, Types};
 use std::alloc::Global;
 
 /// An empty page on which resources are counted, and how many items and types were gone through.

@@ -3,7 +3,7 @@
 use crate::counted::{Counted, count_before};
 use crate::spots::{Spot, list_of};
 use cm_tool_show::{Page, ShowFault, show_extern_line, show_item};
-use cm_types_signatures::{Desc, Signature};
+use cm_types_arena::{Desc, Signature};
 use std::alloc::Global;
 
 /// The line that stands for an import, an export or an item in the text of its signature; empty

@@ -2,9 +2,9 @@
 
 use crate::blocks::{Block, Side, first_changed, first_missing, first_named, numbered};
 use cm_match_model::{LinkFault, LinkReason};
+use cm_tool_help_texts::Escaped;
 use cm_tool_show::{ShowFault, show};
-use cm_tool_text::Escaped;
-use cm_types_signatures::Signature;
+use cm_types_arena::Signature;
 use std::alloc::{AllocError, Global};
 use std::fmt::Write;
 

@@ -4,7 +4,7 @@ use crate::blocks::{Side, block_at, item_at};
 use crate::lines::line_at;
 use crate::spots::Spot;
 use cm_tool_show::ShowFault;
-use cm_types_signatures::Signature;
+use cm_types_arena::Signature;
 use cm_wit_conforms::{ConformFault, ConformList, ConformReason};
 use std::alloc::{AllocError, Global};
 use std::fmt::Write;

@@ -2,11 +2,11 @@
 //! signature.
 
 ghost use Rattle.std.specs.Prelude.{◌≡◌, true};
-ghost use Rattle.cm_types_signatures.specs.Listed.{are_in};
+ghost use Rattle.cm_types_arena.specs.Listed.{are_in};
 
 use crate::blocks::Side;
 use cm_types::ExternNameForm;
-use cm_types_signatures::{Desc, Externs, Items, Signature};
+use cm_types_arena::{Desc, Externs, Items, Signature};
 
 /// An import or an export by its place, from 0, or an item of one by its place there.
 #[derive(Clone, Copy)]

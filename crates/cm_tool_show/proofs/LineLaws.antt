@@ -20,11 +20,11 @@ use Rattle.cm_types_arena.specs.Instances.{desc_of, replaced_desc, replaced_item
 use Rattle.cm_types_arena.specs.declared.placed.Placed.{Placed}
 use Rattle.cm_types_arena.specs.declared.instances.ItemDesc.{ItemDesc}
 use Rattle.cm_types_arena.specs.declared.instances.ItemDesc.TheVariants as item
-use Rattle.cm_types_signatures.specs.Listed.{desc_in, item_in}
-use Rattle.cm_types_signatures.specs.declared.externs.Desc.{Desc}
-use Rattle.cm_types_signatures.specs.declared.externs.Desc.TheVariants as is
-use Rattle.cm_types_signatures.specs.declared.externs.NamedDesc.{NamedDesc}
-use Rattle.cm_types_signatures.specs.declared.externs.NamedItem.{NamedItem as Item}
+use Rattle.cm_types_arena.specs.Listed.{desc_in, item_in}
+use Rattle.cm_types_arena.specs.declared.named_externs.Desc.{Desc}
+use Rattle.cm_types_arena.specs.declared.named_externs.Desc.TheVariants as is
+use Rattle.cm_types_arena.specs.declared.named_externs.NamedDesc.{NamedDesc}
+use Rattle.cm_types_arena.specs.declared.named_externs.NamedItem.{NamedItem as Item}
 use Rattle.cm_tool_show.specs.Pages.{IsOver}
 use Rattle.cm_tool_show.specs.Pieces.{Piece, chars}
 use Rattle.cm_tool_show.specs.declared.page.Page.{Page}

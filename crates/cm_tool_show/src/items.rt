@@ -10,8 +10,8 @@ ghost use Rattle.cm_types.specs.TypeTrees.{type_of};
 ghost use Rattle.cm_types_arena.specs.Replaced.{replaced, replaced_func};
 ghost use Rattle.cm_types_arena.specs.Instances.{numbered, replaced_item};
 ghost use Rattle.cm_types_arena.specs.Placed.{moved_by};
-ghost use Rattle.cm_types_signatures.specs.Listed.{are_in, are_items_in, brought_items, extern_in};
-ghost use Rattle.cm_types_signatures.specs.Listed.{externs_listed, is_desc_in, is_item_in, item_in};
+ghost use Rattle.cm_types_arena.specs.Listed.{are_in, are_items_in, brought_items, extern_in};
+ghost use Rattle.cm_types_arena.specs.Listed.{externs_listed, is_desc_in, is_item_in, item_in};
 ghost use Rattle.cm_tool_show.specs.Counted.{counted};
 ghost use Rattle.cm_tool_show.specs.Pages.{IsOver, seen_on, text_on};
 ghost use Rattle.cm_tool_show.specs.Pieces.{chars, seen_behind, text_behind};
@@ -30,8 +30,9 @@ use crate::types::{add_fields, add_type};
 use crate::{Counting, Page, ShowFault};
 use cm_types::{ExternNameForm, Func, ResourceId, TypeNode, TypeTree};
 use cm_types_arena::laws::replacing;
-use cm_types_arena::{ItemDesc, Move, Types, moved_resource};
-use cm_types_signatures::{Desc, Externs, Items, NamedDesc, NamedItem};
+use cm_types_arena::{
+    Desc, Externs, ItemDesc, Items, Move, NamedDesc, NamedItem, Types, moved_resource,
+};
 
 /// Adds what a line begins with: a word, a name and a blank.
 fn begin_line(page: &mut Page, word: &str, name: ExternNameForm<'_>) -> Result<(), ShowFault>

@@ -2,7 +2,7 @@
 
 ghost use Rattle.std.specs.Prelude.{◌≡◌, ◌≤◌, ◌<◌, IfOk, IsErrOf, length};
 ghost use Rattle.std.specs.String.{string_bytes};
-ghost use Rattle.cm_types_signatures.specs.Signatures.{signature_of};
+ghost use Rattle.cm_types_arena.specs.Signatures.{signature_of};
 ghost use Rattle.cm_tool_show.specs.Shown.{shown};
 ghost use Rattle.cm_tool_show.specs.declared.fault.ShowFault.TheVariants as fault;
 ghost use Rattle.cm_tool_show.specs.declared.page.TheConstants.{MAX_SHOWN};
@@ -10,7 +10,7 @@ ghost use Rattle.cm_tool_show.specs.declared.page.TheConstants.{MAX_SHOWN};
 use crate::items::show_externs;
 use crate::laws::pieces_join;
 use crate::{Page, ShowFault};
-use cm_types_signatures::Signature;
+use cm_types_arena::Signature;
 use std::alloc::Global;
 
 /// The text that shows a signature: a line for each import and then for each export, in order, and

@@ -1,7 +1,7 @@
 //! Which word of a command line is wrong.
 
 use crate::usage::{Form, form_named};
-use cm_tool_text::{Escaped, is_near};
+use cm_tool_help_texts::{Escaped, is_near};
 use std::fmt;
 
 /// What is wrong with the words of a command line.

@@ -12,3 +12,4 @@ pub mod UnmovedLaws
 pub mod ArenaLemmas
 pub mod InstancesLaws
 pub mod ReplacedLemmas
+pub mod NumberLaws

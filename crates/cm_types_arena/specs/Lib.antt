@@ -8,3 +8,8 @@ pub mod SameTypes
 pub mod Placed
 pub mod Instances
 pub mod Externs
+pub mod SharedNames
+pub mod Shared
+pub mod Numbered
+pub mod Listed
+pub mod Signatures

@@ -12,6 +12,6 @@ mod NodeLemmas
 mod ArenaLemmas
 mod KnownLaws
 mod KnownFuncs
-mod PlacedNumbersOrders
-mod PlacedNumbersStays
-mod PlacedNumbersKnownLaws
+mod PlacedOrders
+mod PlacedStays
+mod KnownPlacedLaws

@@ -2,4 +2,4 @@ pub mod Tables
 pub mod Numbering
 pub mod Knowing
 pub mod Moved
-pub mod PlacedNumbersTables
+pub mod PlacedTables

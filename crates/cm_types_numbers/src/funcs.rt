@@ -6,7 +6,7 @@ ghost use Rattle.cm_types_arena.specs.Replaced.{Standing, replaced_func};
 ghost use Rattle.cm_types_arena.specs.TypeDefs.{func_at};
 ghost use Rattle.cm_types_numbers.specs.Numbering.{Numbering, number_func};
 ghost use Rattle.cm_types_numbers.specs.Moved.{moved_through};
-ghost use Rattle.cm_types_numbers.specs.PlacedNumbersTables.{KnowsFuncs, known_func};
+ghost use Rattle.cm_types_numbers.specs.PlacedTables.{KnowsFuncs, known_func};
 
 use crate::moves::MovedFunc;
 use std::alloc::{AllocError, Global};

@@ -8,7 +8,7 @@ ghost use Rattle.cm_types_arena.specs.TypeDefs.{func_at, type_at};
 ghost use Rattle.cm_types_numbers.specs.Numbering.{Extends, Numbering, number, number_func};
 ghost use Rattle.cm_types_numbers.specs.Numbering.{numbering};
 ghost use Rattle.cm_types_numbers.specs.Moved.{moved_through};
-ghost use Rattle.cm_types_numbers.specs.PlacedNumbersTables.{KnowsTypes};
+ghost use Rattle.cm_types_numbers.specs.PlacedTables.{KnowsTypes};
 
 use crate::laws::numbers_stay;
 use crate::moves::{Moves, Through};

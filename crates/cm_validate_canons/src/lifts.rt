@@ -16,12 +16,11 @@ use crate::FuncPassing;
 use crate::needs::lift_type_fault;
 use crate::types::LaidTypes;
 use cm_binary_model::CanonOption;
-use cm_validate_core::CoreSpaces;
+use cm_validate_core::{CoreSpaces, lesser};
 use cm_validate_entries::laws::types_after;
 use cm_validate_entries::{ComponentSpaces, func_type_at};
 use cm_validate_model::ValidReason;
 use cm_validate_model::laws::least_of_both;
-use cm_validate_type_rules::lesser;
 use std::alloc::AllocError;
 
 /// Why a lift is refused: the reason with the smallest number, or none. `NoSuchIndex` comes where

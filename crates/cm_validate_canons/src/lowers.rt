@@ -21,12 +21,11 @@ use crate::options::have_post_return;
 use crate::types::LaidTypes;
 use cm_binary_model::CanonOption;
 use cm_types_arena::Placed;
-use cm_validate_core::CoreSpaces;
+use cm_validate_core::{CoreSpaces, broken_unless, lesser};
 use cm_validate_entries::laws::{others_add_nothing, types_after};
 use cm_validate_entries::{ComponentSpaces, FuncEntry};
 use cm_validate_model::ValidReason;
 use cm_validate_model::laws::least_of_both;
-use cm_validate_type_rules::{broken_unless, lesser};
 use std::alloc::AllocError;
 
 fn type_fault(types: &LaidTypes<'_>, ty: Placed, options: &[CanonOption]) -> Option<ValidReason>

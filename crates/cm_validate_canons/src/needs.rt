@@ -11,9 +11,9 @@ ghost use Rattle.cm_validate_canons.specs.Types.{Passes};
 use crate::options::{have_latin1, have_memory, have_realloc};
 use crate::{FuncPassing, Passed};
 use cm_binary_model::CanonOption;
+use cm_validate_core::{broken_unless, lesser};
 use cm_validate_model::ValidReason;
 use cm_validate_model::laws::least_of_both;
-use cm_validate_type_rules::{broken_unless, lesser};
 
 /// Whether what is passed stands in memory, or its contents do.
 fn stands_in_memory(passed: Passed) -> bool

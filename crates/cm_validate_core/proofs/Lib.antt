@@ -6,3 +6,6 @@ mod CanonLaws
 mod TextLaws
 mod InstanceLaws
 mod StayLaws
+pub mod NamePlaceLaws
+mod NameSetLaws
+pub mod DistinctLaws

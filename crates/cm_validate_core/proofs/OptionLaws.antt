@@ -5,7 +5,7 @@ use Rattle.std.specs.Str.{bytes_eq}
 use Rattle.std.proofs.lemmas.Bool.Decides.{nat_tests}
 use Rattle.std.proofs.lemmas.Slice.Eq.{bytes_eq-Decides}
 use Rattle.cm_validate_model.specs.Options.{is_same_export}
-use Rattle.cm_validate_names.specs.NamedValues.{place_of}
+use Rattle.cm_validate_core.specs.NamedValues.{place_of}
 use Rattle.cm_validate_core.specs.declared.entries.GuestMemory.{GuestMemory}
 use Rattle.cm_validate_core.specs.Entries.{memory_of}
 use Rattle.cm_validate_core.specs.CoreSpaces.{IsMemoryNumbered, MemoryNames}

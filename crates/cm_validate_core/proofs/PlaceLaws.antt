@@ -5,9 +5,9 @@ use Rattle.std.proofs.lemmas.Slice.Eq.{bytes_eq-Decides}
 use Rattle.std.specs.Borrow.{Bor}
 use Rattle.std.specs.List.{position_from}
 use Rattle.std.specs.Str.{bytes_eq}
-use Rattle.cm_validate_names.specs.NamedValues.{names_in, place_of}
+use Rattle.cm_validate_core.specs.NamedValues.{names_in, place_of}
 use Rattle.cm_validate_core.specs.CoreSpaces.{KeepsNumbers, MemoryNames}
-use Rattle.cm_validate_names.proofs.PlaceLaws.{names_length, names_more}
+use Rattle.cm_validate_core.proofs.NamePlaceLaws.{names_length, names_more}
 use Rattle.cm_lemmas.proofs.Lists.{texts_either_way}
 
 -- ---- whether a name is there

@@ -17,7 +17,7 @@ use Rattle.cm_validate_core.specs.declared.entries.GuestMemory.{GuestMemory}
 use Rattle.cm_validate_core.specs.declared.entries.CoreInstanceEntry.{CoreInstanceEntry}
 use Rattle.cm_validate_core.specs.declared.entries.CoreInstanceEntry.TheVariants as entry
 use Rattle.cm_validate_core.specs.declared.spaces.CoreSpaces.{CoreSpaces}
-use Rattle.cm_validate_names.specs.NameMaps.{entries_of}
+use Rattle.cm_validate_core.specs.NameMaps.{entries_of}
 use Rattle.cm_validate_core.specs.Entries.{instance_of}
 use Rattle.cm_validate_core.specs.CoreSpaces.{IsCoreOf, IsFirstNumbered, IsInstanceNumbered, IsItemNumbered, IsMemoryNumbered, KeepsNumbers, MemoryNames, memory_names_of}
 use Rattle.cm_lemmas.proofs.Lists.{got_at}

@@ -11,8 +11,8 @@ use Rattle.cm_validate_model.specs.Options.{is_guest}
 use Rattle.cm_validate_model.specs.Reasons.{least}
 use Rattle.cm_validate_model.specs.Rules.{broken}
 use Rattle.cm_validate_model.specs.Spaces.{Spaces, after_item}
-use Rattle.cm_validate_names.specs.NameMaps.{entries_of}
-use Rattle.cm_validate_names.specs.NamedValues.{names_in, place_of}
+use Rattle.cm_validate_core.specs.NameMaps.{entries_of}
+use Rattle.cm_validate_core.specs.NamedValues.{names_in, place_of}
 use Rattle.cm_validate_core.specs.declared.entries.GuestMemory.{GuestMemory}
 use Rattle.cm_validate_core.specs.declared.entries.CoreItem.{CoreItem}
 use Rattle.cm_validate_core.specs.declared.entries.CoreItem.TheVariants as item

@@ -6,7 +6,7 @@ use Rattle.cm_validate_model.specs.Definitions.{CoreExport, CoreFuncDef, guest, 
 use Rattle.cm_validate_model.specs.Definitions.{table}
 use Rattle.cm_validate_model.specs.Definitions.{memory, global, NamedCoreDef, CoreInstanceDef}
 use Rattle.cm_validate_model.specs.Definitions.{instantiated, exporting}
-use Rattle.cm_validate_names.specs.NameMaps.{entries_of}
+use Rattle.cm_validate_core.specs.NameMaps.{entries_of}
 use Rattle.cm_validate_core.specs.declared.entries.GuestExport.{GuestExport}
 use Rattle.cm_validate_core.specs.declared.entries.GuestMemory.{GuestMemory}
 use Rattle.cm_validate_core.specs.declared.entries.CoreFunc.{CoreFunc}

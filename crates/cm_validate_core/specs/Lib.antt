@@ -2,3 +2,8 @@ pub mod Entries
 pub mod CoreSpaces
 pub mod Kinds
 pub mod Instances
+pub mod NamedValues
+pub mod NameMaps
+pub mod Names
+pub mod Forms
+pub mod NameSets

@@ -4,16 +4,16 @@ ghost use Rattle.std.specs.Prelude.{◌≡◌, ℕ, IfOk, Some, slice_get};
 ghost use Rattle.std.specs.Option.{option_map};
 ghost use Rattle.cm_validate_model.specs.Definitions.{CoreFuncDef};
 ghost use Rattle.cm_validate_model.specs.Spaces.{core_def_of_sort};
-ghost use Rattle.cm_validate_names.specs.NameMaps.{entries_of};
-ghost use Rattle.cm_validate_names.specs.NamedValues.{names_in, place_of};
+ghost use Rattle.cm_validate_core.specs.NameMaps.{entries_of};
+ghost use Rattle.cm_validate_core.specs.NamedValues.{names_in, place_of};
 ghost use Rattle.cm_validate_core.specs.CoreSpaces.{IsItemNumbered, KeepsNumbers};
 ghost use Rattle.cm_validate_core.specs.Entries.{def_of, export_of};
 
 use crate::entries::{CoreFunc, CoreInstanceEntry, CoreItem, GuestExport, GuestMemory};
+use crate::name_map::NameMap;
 use crate::spaces::CoreSpaces;
 use cm_binary_model::CoreSort;
 use cm_validate_model::ValidReason;
-use cm_validate_names::NameMap;
 use std::alloc::AllocError;
 
 impl<'a> CoreItem<'a> {

@@ -1,6 +1,6 @@
 //! What stands in the core index spaces.
 
-use cm_validate_names::NameMap;
+use crate::name_map::NameMap;
 
 /// What a core instance that is made of a module exports under a name.
 #[derive(Clone, Copy)]

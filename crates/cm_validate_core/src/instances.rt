@@ -8,16 +8,16 @@ ghost use Rattle.cm_binary_model.specs.Trees.{arg_tree, core_export_tree};
 ghost use Rattle.cm_validate_model.specs.Definitions.{CoreFuncDef};
 ghost use Rattle.cm_validate_model.specs.Rules.{are_distinct_texts};
 ghost use Rattle.cm_validate_model.specs.Spaces.{Spaces};
-ghost use Rattle.cm_validate_names.specs.NameMaps.{entries_of};
+ghost use Rattle.cm_validate_core.specs.NameMaps.{entries_of};
 ghost use Rattle.cm_validate_core.specs.CoreSpaces.{IsCoreOf};
 
 use crate::aliases::instance_at;
 use crate::entries::{CoreFunc, CoreInstanceEntry, CoreItem, GuestExport, GuestMemory};
+use crate::name_map::NameMap;
+use crate::reasons::broken_unless;
 use crate::spaces::CoreSpaces;
 use cm_binary_model::{CoreInlineExport, CoreInstance, CoreInstantiationArg, CoreSort};
 use cm_validate_model::ValidReason;
-use cm_validate_names::NameMap;
-use cm_validate_type_rules::broken_unless;
 use std::alloc::{AllocError, Global};
 
 /// Whether the names of arguments differ as texts. Each is looked up in a tree, which costs the

@@ -7,11 +7,11 @@ ghost use Rattle.cm_validate_core.specs.Entries.{memory_of};
 ghost use Rattle.cm_validate_core.specs.Kinds.{is_of_kind};
 
 use crate::entries::GuestMemory;
+use crate::reasons::{broken_unless, lesser};
 use crate::spaces::CoreSpaces;
 use cm_binary_model::CanonOption;
 use cm_validate_model::ValidReason;
 use cm_validate_model::laws::least_of_both;
-use cm_validate_type_rules::{broken_unless, lesser};
 
 /// A kind of canonical options; all encodings are one.
 #[derive(Clone, Copy)]

@@ -3,8 +3,8 @@
 ghost use Rattle.cm_validate_core.specs.CoreSpaces.{IsCoreOf};
 
 use crate::entries::{CoreFunc, CoreInstanceEntry, GuestExport, GuestMemory};
+use crate::name_map::NameMap;
 use cm_validate_model::ValidReason;
-use cm_validate_names::NameMap;
 use std::alloc::{AllocError, Global};
 
 /// The core index spaces of a component, after some of its items (Explainer.md, "Index Spaces").

@@ -13,7 +13,7 @@ use Rattle.cm_validate_model.specs.Rules.{func_name_broken, instance_name_broken
 use Rattle.cm_validate_model.specs.Spaces.{Spaces, after_item}
 use Rattle.cm_validate_model.specs.TypeRules.{has_sort}
 use Rattle.cm_validate_model.specs.declared.sorts.TypeSort.TheVariants as sort
-use Rattle.cm_validate_names.specs.NameSets.{known_broken}
+use Rattle.cm_validate_core.specs.NameSets.{known_broken}
 use Rattle.cm_validate_types.specs.Entries.{entry_sort}
 use Rattle.cm_validate_types.specs.declared.entries.TypeEntry.{TypeEntry}
 use Rattle.cm_validate_types.specs.declared.entries.TypeEntry.TheVariants as entry

@@ -16,7 +16,7 @@ use Rattle.cm_validate_model.specs.Items.{Item, export_item}
 use Rattle.cm_validate_model.specs.Reasons.{bare_index_broken, found, least, lesser, unless}
 use Rattle.cm_validate_model.specs.Rules.{broken, func_name_broken, instance_name_broken, name_broken}
 use Rattle.cm_validate_model.specs.Spaces.{Spaces, after_item, func_exported, instance_exported, new_exports, new_funcs, new_instances}
-use Rattle.cm_validate_names.specs.NameSets.{known_broken}
+use Rattle.cm_validate_core.specs.NameSets.{known_broken}
 use Rattle.cm_validate_entries.specs.ComponentSpaces.{AnswersAlone, IsComponentOf, export_def, is_exported_there}
 use Rattle.cm_validate_entries.specs.Entries.{func_def, members_of, is_func_there, are_members_there}
 use Rattle.cm_validate_items.specs.Resources.{resources_in}

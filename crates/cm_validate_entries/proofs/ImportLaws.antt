@@ -35,7 +35,7 @@ use Rattle.cm_validate_model.specs.TypeRules.{has_sort}
 use Rattle.cm_validate_model.specs.declared.sorts.TypeSort.{TypeSort}
 use Rattle.cm_validate_model.specs.declared.sorts.TypeSort.TheVariants as sort
 use Rattle.cm_validate_model.specs.CountedSpaces.{AreItemsCounted, AreSpacesCounted, IsDefCounted, IsInstanceCounted}
-use Rattle.cm_validate_names.specs.NameSets.{known_broken}
+use Rattle.cm_validate_core.specs.NameSets.{known_broken}
 use Rattle.cm_validate_entries.specs.Entries.{func_def, members_of, is_func_there, are_members_there, item_members}
 use Rattle.cm_validate_items.specs.InstanceTypes.{instance_type_of}
 use Rattle.cm_validate_items.specs.Items.{fresh_of}

@@ -4,7 +4,7 @@ use Rattle.std.specs.List.{list_all}
 use Rattle.cm_types_arena.specs.Externs.{extern_of, is_extern_there}
 use Rattle.cm_types_arena.specs.declared.externs.Extern.{Extern}
 use Rattle.cm_validate_items.specs.Resources.{resources_in}
-use Rattle.cm_validate_names.specs.NameSets.{KnowsSame}
+use Rattle.cm_validate_core.specs.NameSets.{KnowsSame}
 use Rattle.cm_validate_entries.specs.ComponentSpaces.{Stays, export_def, is_exported_there}
 use Rattle.cm_validate_entries.specs.Entries.{are_members_there, func_def, is_func_there, members_of}
 use Rattle.cm_validate_entries.specs.declared.spaces.ComponentSpaces.{ComponentSpaces}

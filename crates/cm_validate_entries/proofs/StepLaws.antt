@@ -11,8 +11,8 @@ use Rattle.cm_validate_entries.specs.declared.spaces.ExportEntry.{ExportEntry}
 use Rattle.cm_validate_model.specs.Definitions.{NamedExport}
 use Rattle.cm_validate_model.specs.Items.{Item}
 use Rattle.cm_validate_model.specs.Spaces.{Spaces, empty_spaces, after_item, after_items, new_funcs, new_instances, new_resources, new_imports, new_exports}
-use Rattle.cm_validate_names.specs.NameSets.{Knows, KnowsMore, is_known}
-use Rattle.cm_validate_names.specs.declared.name_set.NameSet.{NameSet}
+use Rattle.cm_validate_core.specs.NameSets.{Knows, KnowsMore, is_known}
+use Rattle.cm_validate_core.specs.declared.name_set.NameSet.{NameSet}
 use Rattle.cm_validate_entries.specs.Entries.{func_def, members_of, is_func_there, are_members_there}
 use Rattle.cm_validate_items.specs.Resources.{resources_in}
 use Rattle.cm_validate_entries.specs.ComponentSpaces.{IsComponentOf, IsReached, export_def, is_exported_there}

@@ -14,7 +14,7 @@ use Rattle.cm_validate_model.specs.Items.{Item, alias_item}
 use Rattle.cm_validate_model.specs.Reasons.{least}
 use Rattle.cm_validate_model.specs.Rules.{broken}
 use Rattle.cm_validate_model.specs.Spaces.{Spaces, empty_spaces, after_item, after_items, new_types}
-use Rattle.cm_validate_names.specs.NameSets.{Knows}
+use Rattle.cm_validate_core.specs.NameSets.{Knows}
 use Rattle.cm_validate_types.specs.Entries.{def_of, is_entry_there}
 use Rattle.cm_validate_types.specs.Settled.{IsEntrySettled}
 use Rattle.cm_validate_types.specs.declared.entries.TypeEntry.{TypeEntry}

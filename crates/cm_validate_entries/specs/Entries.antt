@@ -9,7 +9,7 @@ use Rattle.std.specs.declared.rc.Rc.{Rc}
 use Rattle.cm_types.specs.Types.{Ty, FuncTy}
 use Rattle.cm_types_arena.specs.Moves.{moved}
 use Rattle.cm_types_arena.specs.declared.moves.Move.{Move}
-use Rattle.cm_validate_names.specs.NameMaps.{entries_of}
+use Rattle.cm_validate_core.specs.NameMaps.{entries_of}
 use Rattle.cm_types_arena.specs.Placed.{placed_type, placed_func, is_there}
 use Rattle.cm_types_arena.specs.Instances.{numbered, are_items_there}
 use Rattle.cm_types_arena.specs.declared.placed.Placed.{Placed}

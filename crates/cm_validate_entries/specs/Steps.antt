@@ -1,7 +1,7 @@
 -- What calls add to the entries, and what they leave as it is.
 use Rattle.std.specs.Prelude.{◌≡◌, ℕ, List, [], ◌∷◌, ◌++◌}
 use Rattle.cm_types_arena.specs.declared.externs.Extern.{Extern}
-use Rattle.cm_validate_names.specs.NameSets.{KnowsMore}
+use Rattle.cm_validate_core.specs.NameSets.{KnowsMore}
 use Rattle.cm_validate_entries.specs.declared.entries.FuncEntry.{FuncEntry}
 use Rattle.cm_validate_entries.specs.declared.entries.InstanceEntry.{InstanceEntry}
 use Rattle.cm_validate_entries.specs.declared.spaces.ComponentSpaces.{ComponentSpaces}

@@ -2,8 +2,8 @@
 
 use cm_binary_model::CanonOption;
 use cm_types_arena::{Move, Placed};
+use cm_validate_core::NameMap;
 use cm_validate_items::InstanceItems;
-use cm_validate_names::NameMap;
 use std::rc::Rc;
 
 /// A function of a component.

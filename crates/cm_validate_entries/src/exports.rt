@@ -7,9 +7,9 @@ use crate::entries::{FuncEntry, InstanceEntry};
 use crate::spaces::{ComponentSpaces, ExportEntry, ExportedEntry};
 use cm_binary_model::{Export, ExportSort};
 use cm_types::ExternName;
+use cm_validate_core::{ExternSort, FoldedName};
 use cm_validate_model::ValidReason;
 use cm_validate_model::laws::least_of_both;
-use cm_validate_names::{ExternSort, FoldedName};
 use cm_validate_types::lesser;
 use std::alloc::{AllocError, Global};
 
@@ -39,7 +39,7 @@ impl<'a> ComponentSpaces<'a> {
     ghost use Rattle.std.specs.Option.{option_map};
     ghost use Rattle.cm_binary_model.specs.declared.externs.ExportSort.TheVariants as sort;
     ghost use Rattle.cm_validate_model.specs.Items.{export_item};
-    ghost use Rattle.cm_validate_names.specs.NameSets.{name_of};
+    ghost use Rattle.cm_validate_core.specs.NameSets.{name_of};
     ghost use Rattle.cm_validate_entries.specs.ComponentSpaces.{AnswersAlone};
 
     /// The function of an index, if there is one.

@@ -2,7 +2,7 @@
 
 use crate::entries::{FuncEntry, InstanceEntry, MemberEntry};
 use crate::spaces::ComponentSpaces;
-use cm_validate_names::NameMap;
+use cm_validate_core::NameMap;
 use std::alloc::{AllocError, Global};
 use std::rc::Rc;
 
@@ -19,7 +19,7 @@ impl<'a> ComponentSpaces<'a> {
     ghost use Rattle.cm_validate_entries.specs.ComponentSpaces.{IsComponentOf, Stays};
     ghost use Rattle.cm_validate_entries.specs.Entries.{func_def, is_func_there, is_member_there};
     ghost use Rattle.cm_validate_entries.specs.Entries.{named_member};
-    ghost use Rattle.cm_validate_names.specs.NameMaps.{entries_of};
+    ghost use Rattle.cm_validate_core.specs.NameMaps.{entries_of};
 
     /// The function of an index, if there is one.
     pub fn func(&self, index: u32) -> Option<FuncEntry<'a>>

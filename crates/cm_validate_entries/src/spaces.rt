@@ -3,8 +3,8 @@
 use crate::entries::{FuncEntry, InstanceEntry};
 use cm_types::ExternName;
 use cm_types_arena::Extern;
+use cm_validate_core::{FoldedName, NameSet};
 use cm_validate_items::Resources;
-use cm_validate_names::{FoldedName, NameSet};
 use std::alloc::{AllocError, Global};
 
 /// What a component exports.
@@ -39,7 +39,7 @@ impl<'a> ComponentSpaces<'a> {
     ghost use Rattle.std.specs.Prelude.{List, OnErr, OnOk};
     ghost use Rattle.cm_types.specs.Types.{FuncTy, Ty};
     ghost use Rattle.cm_validate_model.specs.Spaces.{empty_spaces};
-    ghost use Rattle.cm_validate_names.specs.NameSets.{name_of};
+    ghost use Rattle.cm_validate_core.specs.NameSets.{name_of};
     ghost use Rattle.cm_validate_entries.specs.ComponentSpaces.{IsComponentOf, Stays};
     ghost use Rattle.cm_validate_entries.specs.Steps.{AddsExport, AddsImport, PushesFunc};
     ghost use Rattle.cm_validate_entries.specs.Steps.{PushesInstance};

@@ -18,4 +18,5 @@ pub use cm_abi_model::StringEncoding;
 pub use core_types::CoreFuncType;
 pub use functions::Functions;
 pub use lifts::Lift;
+pub use options::encoding;
 pub use shown::Described;

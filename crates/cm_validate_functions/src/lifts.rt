@@ -9,7 +9,7 @@ ghost use Rattle.cm_validate_spaces.specs.cm_validate_entries.Entries.{named_mem
 ghost use Rattle.cm_validate_spaces.specs.cm_validate_entries.ComponentSpaces.{exported_def};
 ghost use Rattle.cm_validate_model.specs.Definitions.{exported_instance};
 ghost use Rattle.cm_validate_model.specs.Spaces.{Spaces};
-ghost use Rattle.cm_validate_names.specs.NameMaps.{entries_of};
+ghost use Rattle.cm_validate_core.specs.NameMaps.{entries_of};
 ghost use Rattle.cm_validate_spaces.specs.Checked.{funcs_in, spaces_in};
 ghost use Rattle.cm_validate_functions.specs.Kept.{AreFirstOf, AreKept, IsOfNumber, Meets};
 ghost use Rattle.cm_validate_functions.specs.Kept.{lift_def, was_met};
@@ -18,8 +18,8 @@ ghost use Rattle.cm_validate_functions.specs.Lifts.{lifts_of_export, lifts_of_me
 
 use cm_binary_model::CanonOption;
 use cm_types_arena::Placed;
+use cm_validate_core::NameMap;
 use cm_validate_items::Shared;
-use cm_validate_names::NameMap;
 use cm_validate_spaces::{Checked, ExportedEntry, FuncEntry, InstanceEntry, MemberEntry};
 use std::alloc::{AllocError, Global};
 use std::collections::BTreeSet;

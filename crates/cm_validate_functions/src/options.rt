@@ -47,7 +47,7 @@ fn post_return_in(option: &CanonOption) -> Option<u32>
 
 /// The encoding of strings: UTF-8 where no option says more (CanonicalABI.md, "Canonical
 /// Definitions").
-pub(crate) fn encoding(options: &[CanonOption]) -> StringEncoding
+pub fn encoding(options: &[CanonOption]) -> StringEncoding
     ensures { result ≡ encoding_of options.now }
 {
     for option in options {

@@ -3,7 +3,7 @@
 use crate::functions::Functions;
 use crate::leading::item_name;
 use crate::lifts::Lift;
-use cm_tool_text::Escaped;
+use cm_tool_help_texts::Escaped;
 use cm_validate_items::Resource;
 use cm_validate_spaces::{CoreFuncEntry, MadeFunc};
 use std::fmt;

@@ -16,7 +16,7 @@ use Rattle.cm_validate_model.specs.Spaces.{Spaces, items_of_members, member_at}
 use Rattle.cm_validate_model.specs.Spaces.{named_member as member_of_export}
 use Rattle.cm_validate_model.specs.TypeRules.{is_value_or_resource}
 use Rattle.cm_validate_model.specs.declared.sorts.TypeSort.{TypeSort}
-use Rattle.cm_validate_instance_types.specs.Sketches.{SketchedItem, named_sketch}
+use Rattle.cm_validate_instances.specs.ItemSketches.{SketchedItem, named_sketch}
 use Rattle.cm_validate_types.specs.Entries.{def_of, is_entry_there}
 use Rattle.cm_validate_types.specs.declared.entries.TypeEntry.{TypeEntry}
 use Rattle.cm_validate_types.specs.declared.entries.TypeEntry.TheVariants as entry

@@ -25,8 +25,8 @@ use Rattle.cm_validate_model.specs.Spaces.{Spaces, item_of_member, items_of_memb
 use Rattle.cm_validate_model.specs.Spaces.{named_member as member_of_export}
 use Rattle.cm_validate_model.specs.TypeRules.{are_distinct_names, is_value_or_resource}
 use Rattle.cm_validate_model.specs.declared.sorts.TypeSort.{TypeSort}
-use Rattle.cm_validate_instance_types.specs.Names.{item_name_faults}
-use Rattle.cm_validate_instance_types.specs.Sketches.{SketchedItem, named_sketch}
+use Rattle.cm_validate_instances.specs.Names.{item_name_faults}
+use Rattle.cm_validate_instances.specs.ItemSketches.{SketchedItem, named_sketch}
 use Rattle.cm_validate_instances.specs.Members.{export_sketches}
 use Rattle.cm_validate_model.proofs.SharedLaws.{LeastOfBoth}
 use Rattle.cm_lemmas.proofs.Lists.{nil_rest, nil_front}

@@ -5,7 +5,7 @@ use Rattle.std.specs.List.{list_all, list_any, position_from}
 use Rattle.std.specs.Prelude.{is_some}
 use Rattle.std.specs.Str.{bytes_eq}
 use Rattle.cm_validate_model.specs.Rules.{are_distinct_texts}
-use Rattle.cm_validate_names.specs.NamedValues.{names_in, place_of}
+use Rattle.cm_validate_core.specs.NamedValues.{names_in, place_of}
 use Rattle.cm_lemmas.proofs.Bools.{and_assoc}
 use Rattle.cm_lemmas.proofs.Lists.{none_of_more, texts_either_way}
 use Rattle.cm_validate_model.proofs.SharedLaws.{rest_is_distinct}

@@ -1,2 +1,14 @@
 pub mod Members
 pub mod Answers
+pub mod ItemSketches
+pub mod Names
+pub mod SketchScopes
+pub mod Sketchings
+pub mod DeclaredItems
+pub mod DeclaredScopes
+pub mod FirstFaults
+pub mod CountedAround
+pub mod Sketches
+pub mod Levels
+pub mod Definitions
+pub mod Faults

@@ -14,10 +14,10 @@ use Rattle.cm_validate_model.specs.Rules.{member_broken}
 use Rattle.cm_validate_model.specs.Scopes.{resource_id}
 use Rattle.cm_validate_model.specs.Spaces.{Spaces, items_of_members, member_at}
 use Rattle.cm_validate_model.specs.Spaces.{named_member as member_of_export}
-use Rattle.cm_validate_instance_types.specs.cm_validate_sketches.Sketches.{sketch_func}
-use Rattle.cm_validate_instance_types.specs.Sketches.{SketchedItem, named_sketch}
-use Rattle.cm_validate_instance_types.specs.declared.sketches.ItemSketch.{ItemSketch}
-use Rattle.cm_validate_instance_types.specs.declared.sketches.ItemSketch.TheVariants as item_sketch
+use Rattle.cm_validate_instances.specs.Sketches.{sketch_func}
+use Rattle.cm_validate_instances.specs.ItemSketches.{SketchedItem, named_sketch}
+use Rattle.cm_validate_instances.specs.declared.item_sketches.ItemSketch.{ItemSketch}
+use Rattle.cm_validate_instances.specs.declared.item_sketches.ItemSketch.TheVariants as item_sketch
 use Rattle.cm_validate_types.specs.declared.entries.TypeEntry.{TypeEntry}
 use Rattle.cm_validate_types.specs.declared.entries.TypeEntry.TheVariants as entry
 use Rattle.cm_validate_entries.specs.ComponentSpaces.{AreTypesOf, IsComponentOf}

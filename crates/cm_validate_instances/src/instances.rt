@@ -7,15 +7,15 @@ ghost use Rattle.cm_validate_model.specs.Items.{instance_item};
 ghost use Rattle.cm_validate_entries.specs.ComponentSpaces.{Stays};
 ghost use Rattle.cm_validate_instances.specs.Answers.{AnswersAmong};
 
+use crate::item_faults::item_names_fault;
 use crate::members::{examine, gather};
+use crate::name_laws::names_are_sketched;
 use cm_binary_model::InlineExport;
 use cm_types_arena::Types;
+use cm_validate_core::lesser;
 use cm_validate_entries::ComponentSpaces;
-use cm_validate_instance_types::item_names_fault;
-use cm_validate_instance_types::name_laws::names_are_sketched;
 use cm_validate_model::ValidReason;
 use cm_validate_model::laws::least_of_both;
-use cm_validate_type_rules::lesser;
 use cm_validate_types::TypeEntry;
 use std::alloc::{AllocError, Global};
 

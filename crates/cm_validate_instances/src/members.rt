@@ -8,22 +8,21 @@ ghost use Rattle.cm_types_arena.specs.Places.{funcs_of, types_of};
 ghost use Rattle.cm_validate_model.specs.Reasons.{least, lesser};
 ghost use Rattle.cm_validate_model.specs.Rules.{are_distinct_texts, member_broken};
 ghost use Rattle.cm_validate_model.specs.Spaces.{Spaces};
-ghost use Rattle.cm_validate_instance_types.specs.Sketches.{sketch_named};
-ghost use Rattle.cm_validate_names.specs.NameMaps.{entries_of};
+ghost use Rattle.cm_validate_instances.specs.ItemSketches.{sketch_named};
+ghost use Rattle.cm_validate_core.specs.NameMaps.{entries_of};
 ghost use Rattle.cm_validate_instances.specs.Members.{AreMembers, IsAnswered, Stand};
 ghost use Rattle.cm_validate_instances.specs.Members.{entry_answer};
 ghost use Rattle.cm_validate_instances.specs.Members.{export_sketches, sketch_member};
 ghost use Rattle.cm_validate_instances.specs.Members.{type_answer};
 
-use crate::sketches::item_sketch;
+use crate::item_sketches::NamedSketch;
+use crate::member_sketches::item_sketch;
 use cm_binary_model::{InlineExport, InstanceExportSort};
 use cm_types_arena::Types;
+use cm_validate_core::{NameMap, lesser};
 use cm_validate_entries::{ComponentSpaces, MemberEntry};
-use cm_validate_instance_types::NamedSketch;
 use cm_validate_model::ValidReason;
 use cm_validate_model::laws::least_of_both;
-use cm_validate_names::NameMap;
-use cm_validate_type_rules::lesser;
 use cm_validate_types::TypeEntry;
 use std::alloc::{AllocError, Global};
 

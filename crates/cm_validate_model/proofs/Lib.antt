@@ -13,4 +13,3 @@ pub mod FaultLaws
 pub mod ReasonsLaws
 pub mod RulesLaws
 pub mod SharedLaws
-pub mod TextLaws

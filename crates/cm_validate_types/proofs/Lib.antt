@@ -6,3 +6,6 @@ pub mod ScopeLaws
 pub mod SettledLaws
 pub mod SpellLaws
 pub mod StayLaws
+pub mod DefLaws
+pub mod CopyLaws
+pub mod OnceLaws

@@ -4,3 +4,4 @@ pub mod Uses
 pub mod Settled
 pub mod TypeScopes
 pub mod SettledScopes
+pub mod Copies

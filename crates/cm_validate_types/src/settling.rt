@@ -1,11 +1,11 @@
 //! Types of a scope that are copied where definitions use them.
 
+use crate::copies::push_replaced;
 use crate::scope::TypeScope;
 use cm_types::{MAX_NODES, ValType};
 use cm_types_arena::laws::what_stays;
 use cm_types_arena::placed_laws::unmoved;
 use cm_types_arena::{Move, Placed};
-use cm_types_copies::push_replaced;
 use std::alloc::{AllocError, Global};
 
 impl TypeScope {

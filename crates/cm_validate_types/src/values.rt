@@ -7,9 +7,9 @@ use cm_types::DefValType;
 use cm_types_arena::laws::what_stays;
 use cm_types_arena::placed_laws::unmoved;
 use cm_types_arena::{DefFault, Placed, TypeDef};
+use cm_validate_core::parts_fault;
 use cm_validate_model::ValidReason;
 use cm_validate_model::laws::least_of_both;
-use cm_validate_type_rules::parts_fault;
 use std::alloc::{AllocError, Global};
 
 impl TypeScope {

@@ -8,11 +8,11 @@ use Rattle.std.proofs.lemmas.Bool.Decides.{nat_tests}
 use Rattle.std.proofs.lemmas.Nat.Bits.{bit_at_above, bit_at-lt, bit_at_or, bit_at-pow_other, bit_at-pow_same, bit_at-zero, same_from_bits}
 use Rattle.cm_types.specs.Types.{flags}
 use Rattle.cm_types.specs.Values.{Val, flag_set}
-use Rattle.cm_values_text.specs.Names.{name_spelling}
-use Rattle.cm_values_text.specs.Spelling.{set_labels, spelling, with_commas}
-use Rattle.cm_values_parse.specs.Grammar.{first_or, Grammar, ◌>>=◌, done}
-use Rattle.cm_values_parse.specs.Values.{flags_on, inner_flags, value, where_so}
-use Rattle.cm_values_parse.specs.Words.{known, mark}
+use Rattle.cm_values.specs.SpelledNames.{name_spelling}
+use Rattle.cm_values.specs.Spelling.{set_labels, spelling, with_commas}
+use Rattle.cm_values.specs.Grammar.{first_or, Grammar, ◌>>=◌, done}
+use Rattle.cm_values.specs.Values.{flags_on, inner_flags, value, where_so}
+use Rattle.cm_values.specs.Words.{known, mark}
 use Rattle.cm_values.specs.Premises.{AreNames}
 use Rattle.cm_values.proofs.SpellLists.{AllBack, ReadsBack, behind, brace, marked_spelled, not_closed, opens_more, some_spelled}
 use Rattle.cm_values.proofs.SpellNames.{At, label_back, label_opens, place_at, wordy_at}

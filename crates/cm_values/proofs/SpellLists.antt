@@ -2,11 +2,11 @@
 use Rattle.std.proofs.Common.{◌≡◌, ℕ, true, false, List, [], ◌∷◌, ◌++◌, Option, Some, None, Ok, refl, sym, ap, ◌∙◌, append-nil, inl, inr}
 use Rattle.std.specs.Prelude.{codes}
 use Rattle.std.specs.List.{flat_map}
-use Rattle.cm_values_parse.specs.declared.kind.Kind.TheVariants as kind
-use Rattle.cm_values_parse.specs.Grammar.{first_or, Grammar, done, ◌>>=◌, passes, StepsSpell}
-use Rattle.cm_values_parse.specs.Lists.{inner_items, items, next_item, some_items}
-use Rattle.cm_values_parse.specs.Words.{belongs, is, mark, separator, this_byte}
-use Rattle.cm_values_text.specs.Spelling.{with_commas}
+use Rattle.cm_values.specs.declared.kind.Kind.TheVariants as kind
+use Rattle.cm_values.specs.Grammar.{first_or, Grammar, done, ◌>>=◌, passes, StepsSpell}
+use Rattle.cm_values.specs.Lists.{inner_items, items, next_item, some_items}
+use Rattle.cm_values.specs.Words.{belongs, is, mark, separator, this_byte}
+use Rattle.cm_values.specs.Spelling.{with_commas}
 use Rattle.cm_values.proofs.SpellWords.{Ends, Opens, gap_blank, gap_none, mark_blank, mark_spelled, no_blank, opens, opens_apart}
 
 -- a mark that closes a list

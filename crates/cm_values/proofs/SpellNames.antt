@@ -4,8 +4,8 @@ use Rattle.std.specs.List.{list_any}
 use Rattle.std.specs.Str.{bytes_eq}
 use Rattle.std.proofs.lemmas.Bool.{cases_Bool}
 use Rattle.std.proofs.lemmas.Slice.Eq.{bytes_eq-Decides}
-use Rattle.cm_values_text.specs.Names.{is_keyword, name_spelling}
-use Rattle.cm_values_parse.specs.Words.{name, place_in}
+use Rattle.cm_values.specs.SpelledNames.{is_keyword, name_spelling}
+use Rattle.cm_values.specs.Words.{name, place_in}
 use Rattle.cm_values.specs.Premises.{AreNames, is_wordy}
 use Rattle.cm_values.proofs.SpellWords.{Ends, Opens, escaped_name, or_false, plain_name, wordy_opens}
 

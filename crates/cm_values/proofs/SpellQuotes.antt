@@ -6,14 +6,14 @@ use Rattle.std.specs.List.{flat_map, list_all}
 use Rattle.std.specs.Str.{encode_utf8_all}
 use Rattle.std.proofs.lemmas.Bool.{and_parts, lt-ltb, eqb-true, ne_eqb, cases_Bool, cases_eq, cases_lt, ltb-true}
 use Rattle.std.proofs.lemmas.Str.{encode_ascii, inside_one}
-use Rattle.cm_values_parse.specs.declared.kind.Kind.TheVariants as kind
-use Rattle.cm_values_parse.specs.declared.piece.Piece.{Piece}
-use Rattle.cm_values_parse.specs.declared.piece.Piece.TheVariants as piece_is
-use Rattle.cm_values_parse.specs.Grammar.{first_or, StepsSpell}
-use Rattle.cm_values_parse.specs.Quoted.{escaped, next_piece, pieces_bytes, quoted, scalar_of}
-use Rattle.cm_values_parse.specs.Words.{belongs, read_on, this_byte}
-use Rattle.cm_values_text.specs.Quotes as Quotes
-use Rattle.cm_values_text.specs.Quotes.{hex_digit, in_quotes}
+use Rattle.cm_values.specs.declared.kind.Kind.TheVariants as kind
+use Rattle.cm_values.specs.declared.piece.Piece.{Piece}
+use Rattle.cm_values.specs.declared.piece.Piece.TheVariants as piece_is
+use Rattle.cm_values.specs.Grammar.{first_or, StepsSpell}
+use Rattle.cm_values.specs.Quoted.{escaped, next_piece, pieces_bytes, quoted, scalar_of}
+use Rattle.cm_values.specs.Words.{belongs, read_on, this_byte}
+use Rattle.cm_values.specs.Quotes as Quotes
+use Rattle.cm_values.specs.Quotes.{hex_digit, in_quotes}
 use Rattle.cm_values.proofs.SpellWords.{or_false}
 
 -- a quote: a byte that is no `\`, stands for itself behind one, and is ASCII

@@ -12,16 +12,16 @@ use Rattle.cm_types.specs.declared.resource.ResourceId.{ResourceId}
 use Rattle.cm_types.specs.Types.{Ty, Fields, Cases, FieldsKind, CasesKind, Width, bool, signed, unsigned, char, string, list, fixed_list, fields, cases, flags, own, borrow, no_fields, field, no_cases, plain, carrying, record_type, tuple_type, variant_type, enum_type, option_type, result_type, width_bytes, bits_8, bits_16, bits_32, bits_64}
 use Rattle.cm_types.specs.Values.{Val, Vals, no_vals, val, truth, signed_number, number, scalar, text, elements, parts, bare, bearing, flag_set, handle, HandleValue, HasType, HaveTypes, IsCarriedCase, IsPlainCase, IsScalarValue, AllVals, count_of}
 use Rattle.cm_types.specs.ValueTrees.{vals_from}
-use Rattle.cm_values_text.specs.Quotes as Quotes
+use Rattle.cm_values.specs.Quotes as Quotes
 use Rattle.cm_types.proofs.ValuesLaws.{scalar_back}
-use Rattle.cm_values_text.specs.Names.{case_word, name_spelling}
-use Rattle.cm_values_text.specs.Spelling.{bare_spelling, bearing_spelling, each, field_spellings, label_spelling, spelling, with_commas}
-use Rattle.cm_values_parse.specs.Grammar.{first_or}
-use Rattle.cm_values_parse.specs.Names.{case_name, case_names}
-use Rattle.cm_values_parse.specs.Quoted.{one_char, quoted_text}
-use Rattle.cm_values_parse.specs.Values.{case_rest, char_value, closing, handle_value, known_case, member, members, signed_value, so_many, string_value, unsigned_value, value, where_so}
-use Rattle.cm_values_parse.specs.Whole.{Spells}
-use Rattle.cm_values_parse.specs.Words.{known, name, place_in, separator, word}
+use Rattle.cm_values.specs.SpelledNames.{case_word, name_spelling}
+use Rattle.cm_values.specs.Spelling.{bare_spelling, bearing_spelling, each, field_spellings, label_spelling, spelling, with_commas}
+use Rattle.cm_values.specs.Grammar.{first_or}
+use Rattle.cm_values.specs.CaseNames.{case_name, case_names}
+use Rattle.cm_values.specs.Quoted.{one_char, quoted_text}
+use Rattle.cm_values.specs.Values.{case_rest, char_value, closing, handle_value, known_case, member, members, signed_value, so_many, string_value, unsigned_value, value, where_so}
+use Rattle.cm_values.specs.Whole.{Spells}
+use Rattle.cm_values.specs.Words.{known, name, place_in, separator, word}
 use Rattle.cm_values.specs.Premises.{AreNames, AreHeld, AreReadable, HaveReadable, IsFieldLabel, IsHeld, IsReadable, is_wordy}
 use Rattle.cm_values.proofs.SpellLists.{AllBack, IsClosing, ReadsBack, brace, bracket, comma_spelled, end_spelled, items_spelled, marked_spelled, opens_more, parenthesis}
 use Rattle.cm_values.proofs.SpellFlags.{flags_back}

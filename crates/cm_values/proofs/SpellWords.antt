@@ -6,10 +6,10 @@ use Rattle.std.specs.List.{list_all}
 use Rattle.std.proofs.lemmas.Bool.{and_parts, lt-ltb, eqb-true, false≢true, ne_eqb}
 use Rattle.std.proofs.lemmas.Fmt.{decimal_digit, decimal_nonempty, digits_decimal, digits_value-decimal, first_decimal}
 use Rattle.std.proofs.lemmas.Str.Parse.{FoldsDigits, IsDigitsTest, IsNumeralModel, numerals_by_fold}
-use Rattle.cm_values_parse.specs.declared.kind.Kind.TheVariants as kind
-use Rattle.cm_values_parse.specs.Grammar.{first_or, passes}
+use Rattle.cm_values.specs.declared.kind.Kind.TheVariants as kind
+use Rattle.cm_values.specs.Grammar.{first_or, passes}
 use Rattle.cm_values.specs.Premises.{is_wordy}
-use Rattle.cm_values_parse.specs.Words.{belongs, gap, is, is_plain, known, magnitude, mark, mark_gap, name, number_below, place_in, read_on, some_word, this_byte, word}
+use Rattle.cm_values.specs.Words.{belongs, gap, is, is_plain, known, magnitude, mark, mark_gap, name, number_below, place_in, read_on, some_word, this_byte, word}
 
 -- ---- tests
 

@@ -17,15 +17,15 @@ use Rattle.cm_types.proofs.TypedValueLemmas.{scalars_of_text}
 use Rattle.cm_types.proofs.TypedValueLaws.{sound}
 use Rattle.cm_lemmas.proofs.Equations.{ok_is}
 use Rattle.cm_lemmas.proofs.Results.{err_of}
-use Rattle.cm_values_parse.specs.declared.fault.ValueReason.{ValueReason}
-use Rattle.cm_values_parse.specs.declared.fault.ValueReason.TheVariants as reason
-use Rattle.cm_values_parse.specs.Grammar.{first_or, Grammar, StepsSpell}
-use Rattle.cm_values_parse.specs.Lists.{inner_items, items, next_item, some_items}
-use Rattle.cm_values_parse.specs.Quoted.{only_one, utf8_bytes}
-use Rattle.cm_values_parse.specs.Values.{case_rest, char_value, flags_on, inner_flags, members, so_many, string_value, truth_of, value, where_so}
-use Rattle.cm_values_parse.specs.Whole.{Spells}
+use Rattle.cm_values.specs.declared.value_fault.ValueReason.{ValueReason}
+use Rattle.cm_values.specs.declared.value_fault.ValueReason.TheVariants as reason
+use Rattle.cm_values.specs.Grammar.{first_or, Grammar, StepsSpell}
+use Rattle.cm_values.specs.Lists.{inner_items, items, next_item, some_items}
+use Rattle.cm_values.specs.Quoted.{only_one, utf8_bytes}
+use Rattle.cm_values.specs.Values.{case_rest, char_value, flags_on, inner_flags, members, so_many, string_value, truth_of, value, where_so}
+use Rattle.cm_values.specs.Whole.{Spells}
 use Rattle.cm_values.proofs.SpellFlags.{between}
-use Rattle.cm_values_parse.specs.Words.{is_plain, known, magnitude, number_below, one_more, place_in, read_on}
+use Rattle.cm_values.specs.Words.{is_plain, known, magnitude, number_below, one_more, place_in, read_on}
 
 -- ---- tables
 

@@ -7,9 +7,9 @@ use Rattle.cm_types.specs.Types.{Ty, Fields, Cases, FieldsKind, list, fixed_list
 use Rattle.cm_types.specs.Types.{cases, flags, no_fields, field, no_cases, plain, carrying}
 use Rattle.cm_types.specs.Types.{record_type, tuple_type}
 use Rattle.cm_types.specs.Values.{Val, Vals, no_vals, val, elements, parts, bearing, handle}
-use Rattle.cm_values_parse.specs.Names.{case_names}
-use Rattle.cm_values_parse.specs.declared.kind.Kind.TheVariants as kind
-use Rattle.cm_values_parse.specs.Words.{belongs}
+use Rattle.cm_values.specs.CaseNames.{case_names}
+use Rattle.cm_values.specs.declared.kind.Kind.TheVariants as kind
+use Rattle.cm_values.specs.Words.{belongs}
 
 -- whether a text is letters, digits and hyphens, as each label is
 abbrev pub is_wordy : List ℕ → Bool

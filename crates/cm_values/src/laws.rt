@@ -4,11 +4,11 @@
 ghost use Rattle.std.specs.Prelude.{◌≡◌, ℕ, List, Ok};
 ghost use Rattle.cm_types.specs.Types.{Ty};
 ghost use Rattle.cm_types.specs.Values.{HasType, Val};
-ghost use Rattle.cm_values_text.specs.Spelling.{spelling};
-ghost use Rattle.cm_values_parse.specs.Whole.{Spells, text_value};
+ghost use Rattle.cm_values.specs.Spelling.{spelling};
+ghost use Rattle.cm_values.specs.Whole.{Spells, text_value};
 ghost use Rattle.cm_values.specs.Premises.{IsHeld, IsReadable};
 
-use cm_values_parse::laws::spellings_are_read;
+use crate::reading_laws::spellings_are_read;
 
 /// The text that `print` gives of a value spells that value, and `parse` reads it as that value:
 /// for every value of a type whose cases and flags have names of their own, as each type of a valid

@@ -1,7 +1,27 @@
-//! Values of components as text: printed by their types, and read back.
+//! Values of components as text, by their types: printed, and read back.
 #![tactic(auto)]
 
+mod cursor;
+mod kind;
 pub mod laws;
+mod leaves;
+mod names;
+mod numbers;
+mod parsed_flags;
+mod parsing;
+mod piece;
+mod print_fault;
+mod printed_flags;
+mod printing;
+mod putting;
+mod quoted;
+mod quotes;
+mod reader;
+pub mod reading_laws;
+mod value_fault;
+mod values;
 
-pub use cm_values_parse::{ValueFault, ValueReason, parse};
-pub use cm_values_text::{PrintFault, print};
+pub use parsing::parse;
+pub use print_fault::PrintFault;
+pub use printing::print;
+pub use value_fault::{ValueFault, ValueReason};

@@ -4,10 +4,10 @@ use Rattle.std.specs.BTreeMap.{get}
 use Rattle.std.specs.Ordering.{is_eq, nat_cmp}
 use Rattle.std.proofs.lemmas.Bool.{cases_Bool}
 use Rattle.cm_types_arena.specs.declared.types.Types.{Types}
-use Rattle.cm_types_signatures.specs.Listed.{names_at, number_at}
-use Rattle.cm_types_signatures.specs.declared.externs.Externs.{Externs}
-use Rattle.cm_wit_lookups.specs.Known.{AreKnown}
-use Rattle.cm_wit_lookups.specs.declared.known.KnownItems.{KnownItems}
+use Rattle.cm_types_arena.specs.Listed.{names_at, number_at}
+use Rattle.cm_types_arena.specs.declared.named_externs.Externs.{Externs}
+use Rattle.cm_wit_conforms.specs.Known.{AreKnown}
+use Rattle.cm_wit_conforms.specs.declared.known.KnownItems.{KnownItems}
 use Rattle.cm_wit_conforms.specs.Walks.{AreKept}
 use Rattle.cm_wit_conforms.specs.declared.kept.Kept.{Kept}
 use Rattle.cm_lemmas.proofs.Orders.{number_exact}

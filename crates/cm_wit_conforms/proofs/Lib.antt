@@ -1,6 +1,5 @@
 mod WalkLaws
 mod PlacedLaws
-mod TableLaws
 mod FaultLaws
 mod JudgeLaws
 mod FirstLaws
@@ -12,3 +11,10 @@ mod SearchLaws
 mod NoteLaws
 mod JudgedLaws
 mod KeptLaws
+pub mod MapLaws
+pub mod ListingLaws
+pub mod ListLaws
+pub mod NumberLaws
+pub mod PlaceLaws
+pub mod HitLaws
+pub mod MeetLaws

@@ -5,7 +5,7 @@ use Rattle.std.proofs.lemmas.Bool.{cases_Bool}
 use Rattle.std.proofs.lemmas.Bool.Decides.{nat_tests}
 use Rattle.std.proofs.lemmas.Option.{slice_get_within}
 use Rattle.cm_types.specs.declared.resource.ResourceId.{ResourceId}
-use Rattle.cm_wit_lookups.specs.Known.{StandsIn}
+use Rattle.cm_wit_conforms.specs.Known.{StandsIn}
 use Rattle.cm_wit_conforms.specs.Comparisons.{Comparison, nothing, two_sorts, two_funcs, two_types, two_resources, Entry}
 use Rattle.cm_wit_conforms.specs.Conformance.{have_pair, meets_have, meets_world, world_pair}
 use Rattle.cm_wit_conforms.specs.Pairs.{HasPairs, HaveBoth, NoteBoth, Notes, lesser, pair_in}

@@ -6,15 +6,15 @@ use Rattle.cm_types.specs.Signatures.{ItemTy, NamedExtern, NamedItem}
 use Rattle.cm_types_arena.specs.declared.types.Types.{Types}
 use Rattle.cm_types_arena.specs.Instances.{replaced_desc, replaced_item}
 use Rattle.cm_types_arena.specs.Placed.{moved_by}
-use Rattle.cm_types_signatures.specs.Listed.{brought_items, by_of, desc_in, externs_listed, item_in, items_listed, names_of_desc}
-use Rattle.cm_types_signatures.specs.declared.externs.Externs.{Externs}
-use Rattle.cm_types_signatures.specs.declared.externs.Items.{Items}
-use Rattle.cm_types_signatures.specs.declared.externs.NamedItem as code_item
+use Rattle.cm_types_arena.specs.Listed.{brought_items, by_of, desc_in, externs_listed, item_in, items_listed, names_of_desc}
+use Rattle.cm_types_arena.specs.declared.named_externs.Externs.{Externs}
+use Rattle.cm_types_arena.specs.declared.named_externs.Items.{Items}
+use Rattle.cm_types_arena.specs.declared.named_externs.NamedItem as code_item
 use Rattle.std.proofs.lemmas.List.{length-map}
-use Rattle.cm_types_signatures.specs.declared.externs.Desc.TheVariants as is_desc
-use Rattle.cm_wit_lookups.specs.Known.{AreMet, StandsIn, found_at, places_in}
-use Rattle.cm_wit_lookups.specs.Places.{extern_names, item_names, place_in}
-use Rattle.cm_wit_lookups.specs.declared.known.Meeting.{Meeting}
+use Rattle.cm_types_arena.specs.declared.named_externs.Desc.TheVariants as is_desc
+use Rattle.cm_wit_conforms.specs.Known.{AreMet, StandsIn, found_at, places_in}
+use Rattle.cm_wit_conforms.specs.Places.{extern_names, item_names, place_in}
+use Rattle.cm_wit_conforms.specs.declared.known.Meeting.{Meeting}
 use Rattle.cm_wit_conforms.specs.Walks.{is_found, of_signature}
 use Rattle.cm_wit_conforms.specs.declared.fault.ConformList.TheVariants as walked
 use Rattle.cm_wit_conforms.specs.Comparisons.{Entry, extern_named, facing, item_comparison, item_entries, item_entry, item_named, or_nothing, two_items}

@@ -6,9 +6,9 @@ use Rattle.std.proofs.lemmas.List.{take_all}
 use Rattle.std.proofs.lemmas.Option.{slice_get_cases, slice_get_within}
 use Rattle.cm_types.specs.Signatures.{NamedExtern}
 use Rattle.cm_types_arena.specs.declared.types.Types.{Types}
-use Rattle.cm_types_signatures.specs.Listed.{externs_listed}
-use Rattle.cm_types_signatures.specs.declared.externs.Externs.{Externs}
-use Rattle.cm_wit_lookups.specs.Places.{extern_names, place_in}
+use Rattle.cm_types_arena.specs.Listed.{externs_listed}
+use Rattle.cm_types_arena.specs.declared.named_externs.Externs.{Externs}
+use Rattle.cm_wit_conforms.specs.Places.{extern_names, place_in}
 use Rattle.cm_wit_conforms.specs.Comparisons.{Entry, entries_from, extern_entries, extern_named}
 use Rattle.cm_wit_conforms.specs.Views.{entries_of, extern_found}
 use Rattle.cm_wit_conforms.specs.declared.fault.ConformList.{ConformList}

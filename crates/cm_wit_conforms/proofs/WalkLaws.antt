@@ -6,7 +6,7 @@ use Rattle.std.specs.Str.{bytes_eq}
 use Rattle.std.proofs.lemmas.Bool.{cases_Bool}
 use Rattle.std.proofs.lemmas.List.{length-map}
 use Rattle.std.specs.Prelude.{Result, Ok, Err, IfErr, OnOk}
-use Rattle.cm_wit_lookups.specs.Places.{place_in}
+use Rattle.cm_wit_conforms.specs.Places.{place_in}
 use Rattle.cm_wit_conforms.specs.Comparisons.{named}
 
 -- ---- what stands at a place

@@ -2,7 +2,7 @@
 use Rattle.std.specs.Prelude.{◌≡◌, List}
 use Rattle.cm_types_arena.specs.Replaced.{Standing}
 use Rattle.cm_types_numbers.specs.Numbering.{numbering}
-use Rattle.cm_types_numbers.specs.PlacedNumbersTables.{KnowsPlaced}
+use Rattle.cm_types_numbers.specs.PlacedTables.{KnowsPlaced}
 use Rattle.cm_wit_conforms.specs.Comparisons.{Entry}
 use Rattle.cm_wit_conforms.specs.Conformance.{have_pair, mark, world_pair}
 use Rattle.cm_wit_conforms.specs.Pairs.{HasPairs, pair_in}

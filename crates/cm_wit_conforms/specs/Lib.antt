@@ -6,3 +6,11 @@ pub mod Conformance
 pub mod Faults
 pub mod Itself
 pub mod Walks
+pub mod Parts
+pub mod PartViews
+pub mod Numbers
+pub mod Listings
+pub mod Places
+pub mod Tables
+pub mod Hits
+pub mod Known

@@ -9,9 +9,9 @@ use Rattle.cm_types_arena.specs.Placed.{moved_by}
 use Rattle.cm_types_arena.specs.Instances.{desc_of, replaced_desc}
 use Rattle.cm_types_arena.specs.declared.instances.ItemDesc.{ItemDesc}
 use Rattle.cm_types_numbers.specs.Moved.{brought_func, brought_type}
-use Rattle.cm_types_signatures.specs.Listed.{by_of, externs_listed, items_listed}
-use Rattle.cm_types_signatures.specs.declared.externs.Externs.{Externs}
-use Rattle.cm_types_signatures.specs.declared.externs.Items.{Items}
+use Rattle.cm_types_arena.specs.Listed.{by_of, externs_listed, items_listed}
+use Rattle.cm_types_arena.specs.declared.named_externs.Externs.{Externs}
+use Rattle.cm_types_arena.specs.declared.named_externs.Items.{Items}
 use Rattle.cm_wit_conforms.specs.Comparisons as all
 use Rattle.cm_wit_conforms.specs.Comparisons.{Entry, nothing, two_sorts, two_funcs, two_types}
 use Rattle.cm_wit_conforms.specs.Comparisons.{extern_entries, two_resources}

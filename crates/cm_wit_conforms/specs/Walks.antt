@@ -5,12 +5,12 @@ use Rattle.std.specs.BTreeMap.{get}
 use Rattle.std.specs.List.{list_all}
 use Rattle.std.specs.Ordering.{nat_cmp}
 use Rattle.cm_types_arena.specs.declared.types.Types.{Types}
-use Rattle.cm_types_signatures.specs.Listed.{brought_items, desc_in, names_at, names_of_desc}
-use Rattle.cm_types_signatures.specs.Listed.{number_at}
-use Rattle.cm_types_signatures.specs.declared.externs.Externs.{Externs}
-use Rattle.cm_wit_lookups.specs.Known.{AreKnown}
-use Rattle.cm_wit_lookups.specs.Places.{item_names}
-use Rattle.cm_wit_lookups.specs.declared.known.KnownItems.{KnownItems}
+use Rattle.cm_types_arena.specs.Listed.{brought_items, desc_in, names_at, names_of_desc}
+use Rattle.cm_types_arena.specs.Listed.{number_at}
+use Rattle.cm_types_arena.specs.declared.named_externs.Externs.{Externs}
+use Rattle.cm_wit_conforms.specs.Known.{AreKnown}
+use Rattle.cm_wit_conforms.specs.Places.{item_names}
+use Rattle.cm_wit_conforms.specs.declared.known.KnownItems.{KnownItems}
 use Rattle.cm_wit_conforms.specs.Comparisons.{Comparison, nothing, Entry, extern_entries}
 use Rattle.cm_wit_conforms.specs.Comparisons.{item_entries}
 use Rattle.cm_wit_conforms.specs.Pairs.{HaveBoth}

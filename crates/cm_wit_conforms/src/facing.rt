@@ -8,12 +8,11 @@ ghost use Rattle.cm_types_arena.specs.Instances.{desc_of};
 ghost use Rattle.cm_wit_conforms.specs.Comparisons.{facing, or_nothing, two_items};
 ghost use Rattle.cm_wit_conforms.specs.Views.{brought_desc, comparison_of, entry_of, item_found};
 ghost use Rattle.cm_wit_conforms.specs.Views.{item_stands, other, own};
-ghost use Rattle.cm_wit_lookups.specs.Places.{item_names, place_in};
+ghost use Rattle.cm_wit_conforms.specs.Places.{item_names, place_in};
 
 use crate::comparisons::{Comparison, PlacedComparison, facing_items};
 use crate::fault::{ConformItem, ConformList};
-use cm_types_arena::{ItemDesc, Move};
-use cm_types_signatures::Items;
+use cm_types_arena::{ItemDesc, Items, Move};
 
 /// The items of the import or export at a place of a list, and those of the one of its name.
 #[derive(Clone, Copy)]

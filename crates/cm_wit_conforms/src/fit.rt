@@ -1,7 +1,7 @@
 //! Whether a signature fits a world.
 
 ghost use Rattle.std.specs.Prelude.{◌≡◌, ◌⊎◌, IfErr, List, OnOk, map};
-ghost use Rattle.cm_types_signatures.specs.Signatures.{signature_of};
+ghost use Rattle.cm_types_arena.specs.Signatures.{signature_of};
 ghost use Rattle.cm_wit_conforms.specs.Comparisons.{Entry};
 ghost use Rattle.cm_wit_conforms.specs.Conformance.{AllFit, Conforms, IsFirstFault, IsFirstIn};
 ghost use Rattle.cm_wit_conforms.specs.Judging.{AreSides};
@@ -11,7 +11,7 @@ use crate::comparisons::PlacedComparison;
 use crate::fault::{ConformFault, ConformReason};
 use crate::judge::{Side, Tables};
 use crate::lists::walked;
-use cm_types_signatures::Signature;
+use cm_types_arena::Signature;
 use std::alloc::Global;
 
 /// Whether these of all that is compared fit, or the first fault of them.

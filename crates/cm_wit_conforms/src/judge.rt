@@ -14,7 +14,7 @@ use crate::pairs::{Pairs, mark};
 use cm_types::{ResourceId, same_resource};
 use cm_types_arena::{Replacement, Types};
 use cm_types_numbers::laws::numbers_stay;
-use cm_types_numbers::placed_numbers_laws::known_stays;
+use cm_types_numbers::placed_laws::known_stays;
 use cm_types_numbers::{Brought, KnownPlaced, Numbers};
 use std::alloc::{AllocError, Global};
 

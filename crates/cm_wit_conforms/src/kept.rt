@@ -5,13 +5,13 @@ ghost use Rattle.std.specs.BTreeMap.{get};
 ghost use Rattle.std.specs.Option.{option_map};
 ghost use Rattle.std.specs.Ordering.{nat_cmp};
 ghost use Rattle.cm_types_arena.specs.declared.types.Types.{Types};
-ghost use Rattle.cm_types_signatures.specs.Listed.{names_at, number_at};
-ghost use Rattle.cm_types_signatures.specs.declared.externs.Externs.{Externs as Listed};
-ghost use Rattle.cm_wit_lookups.specs.Places.{item_names};
+ghost use Rattle.cm_types_arena.specs.Listed.{names_at, number_at};
+ghost use Rattle.cm_types_arena.specs.declared.named_externs.Externs.{Externs as Listed};
+ghost use Rattle.cm_wit_conforms.specs.Places.{item_names};
 
-use cm_types_signatures::laws::equal_numbers_have_equal_names;
-use cm_types_signatures::{Externs, Items};
-use cm_wit_lookups::KnownItems;
+use crate::known::KnownItems;
+use cm_types_arena::signature_laws::equal_numbers_have_equal_names;
+use cm_types_arena::{Externs, Items};
 use std::alloc::{AllocError, Global};
 use std::collections::BTreeMap;
 

@@ -3,22 +3,23 @@
 ghost use Rattle.std.specs.Prelude.{◌≡◌, ◌++◌, [], List, IfOk, IfSome, OnOk, map, slice_get};
 ghost use Rattle.std.specs.Option.{option_map};
 ghost use Rattle.cm_types_arena.specs.declared.types.Types.{Types};
-ghost use Rattle.cm_types_signatures.specs.Listed.{desc_in, externs_listed, names_at};
-ghost use Rattle.cm_types_signatures.specs.Listed.{names_of_desc};
-ghost use Rattle.cm_types_signatures.specs.Signatures.{signature_of};
+ghost use Rattle.cm_types_arena.specs.Listed.{desc_in, externs_listed, names_at};
+ghost use Rattle.cm_types_arena.specs.Listed.{names_of_desc};
+ghost use Rattle.cm_types_arena.specs.Signatures.{signature_of};
 ghost use Rattle.cm_wit_conforms.specs.Comparisons as all;
 ghost use Rattle.cm_wit_conforms.specs.Comparisons.{Entry, entries_from};
 ghost use Rattle.cm_wit_conforms.specs.Views.{entries_of, extern_found, other, own};
 ghost use Rattle.cm_wit_conforms.specs.Walks.{AreKept, IsWalked, facing_entries, of_signature};
-ghost use Rattle.cm_wit_lookups.specs.Places.{extern_names, item_names, place_in};
+ghost use Rattle.cm_wit_conforms.specs.Places.{extern_names, item_names, place_in};
 
 use crate::comparisons::{Comparison, facing_funcs};
 use crate::facing::Facing;
 use crate::fault::ConformList;
 use crate::kept::Kept;
+use crate::known::KnownItems;
+use crate::same_names::extern_places;
 use crate::walk::Walk;
-use cm_types_signatures::{Desc, Externs, Signature};
-use cm_wit_lookups::{KnownItems, extern_places};
+use cm_types_arena::{Desc, Externs, Signature};
 use std::alloc::{AllocError, Global};
 
 /// The import or export at a place of a list, and the one of its name that was found.

@@ -7,15 +7,15 @@ ghost use Rattle.cm_wit_conforms.specs.Comparisons.{Entry};
 ghost use Rattle.cm_wit_conforms.specs.Pairs.{HaveBoth};
 ghost use Rattle.cm_wit_conforms.specs.Views.{comparison_of, entry_of};
 ghost use Rattle.cm_wit_conforms.specs.Walks.{IsJudged, IsKnownBy, facing_entries};
-ghost use Rattle.cm_wit_lookups.specs.Known.{AreMet};
-ghost use Rattle.cm_wit_lookups.specs.Places.{item_names, place_in};
+ghost use Rattle.cm_wit_conforms.specs.Known.{AreMet};
+ghost use Rattle.cm_wit_conforms.specs.Places.{item_names, place_in};
 
 use crate::comparisons::{Comparison, PlacedComparison};
 use crate::facing::{Facing, compared_at};
 use crate::fault::{ConformItem, ConformList};
 use crate::judged::Judged;
+use crate::known::{KnownItems, Meeting};
 use crate::pairs::BothPairs;
-use cm_wit_lookups::{KnownItems, Meeting};
 use std::alloc::{AllocError, Global};
 
 /// Judges the items of an instance, each against the other of its name, until one finds nothing.

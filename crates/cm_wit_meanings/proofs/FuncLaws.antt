@@ -30,8 +30,8 @@ use Rattle.cm_wit_meanings.specs.Places.{Extends, ArePlaced, scope_in}
 use Rattle.cm_wit_meanings.specs.Meanings.{func_meaning, each_meaning, typed_meaning, payload_meaning, resource_func_meaning, with_self}
 use Rattle.cm_wit_meanings.specs.Faults.{IsFuncWithin, IsFuncFault, AreFieldsFault, IsPayloadFault, IsTypeFault}
 use Rattle.cm_wit_meanings.specs.Added.{AddedType}
-use Rattle.cm_wit_meanings.specs.WitDefinitionsAdded.{AddedFields, AddedFunc}
-use Rattle.cm_wit_meanings.proofs.WitDefinitionsGrowthLaws.{extends_one, arena_within}
+use Rattle.cm_wit_meanings.specs.PartsAdded.{AddedFields, AddedFunc}
+use Rattle.cm_wit_meanings.proofs.PartsGrowthLaws.{extends_one, arena_within}
 use Rattle.cm_wit_meanings.proofs.GrowthLaws.{extends_length, extends_more, extends_same, place_kept}
 use Rattle.cm_types_arena.proofs.PlaceLaws.{option_more}
 use Rattle.cm_wit_meanings.proofs.ScopeLaws.{scope_kept}

@@ -5,11 +5,11 @@ mod AddedLaws
 mod EachLaws
 mod PushLaws
 mod TypeLaws
-mod WitDefinitionsGrowthLaws
-mod WitDefinitionsFaultLaws
-mod WitDefinitionsEachLaws
-mod WitDefinitionsPushLaws
-mod WitDefinitionsAddedLaws
+mod PartsGrowthLaws
+mod PartsFaultLaws
+mod PartsEachLaws
+mod PartsPushLaws
+mod PartsAddedLaws
 pub mod MemberLaws
 mod DefinitionLaws
 mod FuncLaws

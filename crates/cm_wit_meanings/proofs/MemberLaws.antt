@@ -25,9 +25,9 @@ use Rattle.cm_wit_meanings.specs.Places.{Extends, ArePlaced, scope_in}
 use Rattle.cm_wit_meanings.specs.Meanings.{meaning, each_meaning, typed_meaning, case_meaning, payload_meaning, record_of, variant_of}
 use Rattle.cm_wit_meanings.specs.Faults.{IsFaultOf, IsTypeFault}
 use Rattle.cm_wit_meanings.specs.Added.{AddedType}
-use Rattle.cm_wit_meanings.specs.WitDefinitionsAdded.{AddedCase, AddedCases, AddedField, AddedFields, is_case_there, is_field_there}
-use Rattle.cm_wit_meanings.proofs.WitDefinitionsFaultLaws.{mapped_fault}
-use Rattle.cm_wit_meanings.proofs.WitDefinitionsPushLaws.{Pushed, pushed_none, pushed_all, pushed_placed, pushed_more, pushed_fault}
+use Rattle.cm_wit_meanings.specs.PartsAdded.{AddedCase, AddedCases, AddedField, AddedFields, is_case_there, is_field_there}
+use Rattle.cm_wit_meanings.proofs.PartsFaultLaws.{mapped_fault}
+use Rattle.cm_wit_meanings.proofs.PartsPushLaws.{Pushed, pushed_none, pushed_all, pushed_placed, pushed_more, pushed_fault}
 use Rattle.cm_lemmas.proofs.Numbers.{below_more}
 use Rattle.cm_wit_meanings.proofs.GrowthLaws.{extends_more, extends_same, place_kept}
 use Rattle.cm_types_arena.proofs.PlaceLaws.{option_more}

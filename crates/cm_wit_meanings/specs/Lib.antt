@@ -3,4 +3,4 @@ pub mod Meanings
 pub mod Faults
 pub mod Places
 pub mod Added
-pub mod WitDefinitionsAdded
+pub mod PartsAdded

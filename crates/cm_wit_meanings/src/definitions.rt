@@ -14,7 +14,7 @@ ghost use Rattle.cm_wit_meanings.specs.Meanings.{case_meaning, def_meaning, each
 ghost use Rattle.cm_wit_meanings.specs.Meanings.{record_of, typed_meaning, variant_of};
 ghost use Rattle.cm_wit_meanings.specs.Places.{ArePlaced, Extends, IsPlaced, meaning_in, scope_in};
 ghost use Rattle.cm_wit_meanings.specs.Scopes.{as_type};
-ghost use Rattle.cm_wit_meanings.specs.WitDefinitionsAdded.{AddedDef, named_place};
+ghost use Rattle.cm_wit_meanings.specs.PartsAdded.{AddedDef, named_place};
 
 use crate::members::{push_cases, push_fields};
 use crate::{Meaning, MeaningFault, Scope, push, push_type};

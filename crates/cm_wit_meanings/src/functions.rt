@@ -10,7 +10,7 @@ ghost use Rattle.cm_wit_reading.specs.Views.{resource_func_tree};
 ghost use Rattle.cm_wit_meanings.specs.Faults.{IsFuncFault, IsFuncWithin};
 ghost use Rattle.cm_wit_meanings.specs.Meanings.{func_meaning, resource_func_meaning, with_self};
 ghost use Rattle.cm_wit_meanings.specs.Places.{ArePlaced, Extends, scope_in};
-ghost use Rattle.cm_wit_meanings.specs.WitDefinitionsAdded.{AddedFunc};
+ghost use Rattle.cm_wit_meanings.specs.PartsAdded.{AddedFunc};
 
 use crate::members::{push_fields, push_result};
 use crate::{MeaningFault, Scope, push};

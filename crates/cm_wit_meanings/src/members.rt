@@ -11,8 +11,8 @@ ghost use Rattle.cm_wit_meanings.specs.Faults.{IsPayloadFault};
 ghost use Rattle.cm_wit_meanings.specs.Meanings.{case_meaning, each_meaning, payload_meaning};
 ghost use Rattle.cm_wit_meanings.specs.Meanings.{typed_meaning};
 ghost use Rattle.cm_wit_meanings.specs.Places.{ArePlaced, Extends, scope_in};
-ghost use Rattle.cm_wit_meanings.specs.WitDefinitionsAdded.{AddedCase, AddedCases, AddedField};
-ghost use Rattle.cm_wit_meanings.specs.WitDefinitionsAdded.{AddedFields};
+ghost use Rattle.cm_wit_meanings.specs.PartsAdded.{AddedCase, AddedCases, AddedField};
+ghost use Rattle.cm_wit_meanings.specs.PartsAdded.{AddedFields};
 
 use crate::types::push_payload;
 use crate::{MeaningFault, Scope, push_type};

@@ -8,9 +8,9 @@ use Rattle.std.proofs.lemmas.List.{take_more, get_or-map, length-map}
 use Rattle.std.proofs.lemmas.List.Elements.{filter_map-append, Contains-append_left, Contains-append_right, Contains-append_cases}
 use Rattle.cm_names.specs.KeyTables.{or_else}
 use Rattle.cm_names.specs.Keys.{is_key}
-use Rattle.cm_wit_keys.specs.FirstKeys as keys
-use Rattle.cm_wit_keys.specs.FirstKeys.{look_up}
-use Rattle.cm_wit_keys.specs.declared.first_keys.FirstKeys.{FirstKeys}
+use Rattle.cm_wit_names.specs.FirstKeys as keys
+use Rattle.cm_wit_names.specs.FirstKeys.{look_up}
+use Rattle.cm_wit_names.specs.declared.first_keys.FirstKeys.{FirstKeys}
 use Rattle.cm_wit_names.specs.declared.mention.Mention as code
 use Rattle.cm_wit_names.specs.Mentions.{Mention}
 use Rattle.cm_wit_names.specs.MentionViews.{mention_view}

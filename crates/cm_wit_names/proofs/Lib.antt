@@ -8,3 +8,4 @@ pub mod BorrowLaws
 pub mod UnknownLaws
 pub mod FaultLaws
 pub mod AddLaws
+pub mod FirstLaws

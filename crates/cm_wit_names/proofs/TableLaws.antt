@@ -11,8 +11,8 @@ use Rattle.cm_wit_names.specs.Mentions.{Mention}
 use Rattle.cm_wit_names.specs.MentionViews.{mention_view}
 use Rattle.cm_wit_names.specs.Known.{is_known_as, known_at}
 use Rattle.cm_names.specs.KeyTables.{or_else}
-use Rattle.cm_wit_keys.specs.FirstKeys.{look_up}
-use Rattle.cm_wit_keys.specs.declared.first_keys.FirstKeys.{FirstKeys}
+use Rattle.cm_wit_names.specs.FirstKeys.{look_up}
+use Rattle.cm_wit_names.specs.declared.first_keys.FirstKeys.{FirstKeys}
 use Rattle.cm_wit_names.specs.Table.{IsTableOf, is_key, Notes}
 use Rattle.cm_names.proofs.KeyLaws.{later, or_none}
 use Rattle.cm_lemmas.proofs.Lists.{next_element}

@@ -1,7 +1,7 @@
 -- The names that were seen, each with its list.
 use Rattle.std.specs.Prelude.{◌≡◌, ◌↔◌, ◌⊎◌, ℕ, List, Some, is_some, true}
-use Rattle.cm_wit_keys.specs.FirstKeys.{look_up}
-use Rattle.cm_wit_keys.specs.declared.first_keys.FirstKeys.{FirstKeys}
+use Rattle.cm_wit_names.specs.FirstKeys.{look_up}
+use Rattle.cm_wit_names.specs.declared.first_keys.FirstKeys.{FirstKeys}
 use Rattle.cm_wit_names.specs.Mentions.{Mention}
 use Rattle.cm_wit_names.specs.Rules.{is_self, key_of}
 

@@ -7,3 +7,6 @@ pub mod Mentions
 pub mod MentionViews
 pub mod Marks
 pub mod FileMentions
+pub mod Pairs
+pub mod Others
+pub mod FirstKeys

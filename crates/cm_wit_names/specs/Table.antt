@@ -3,8 +3,8 @@ use Rattle.std.specs.Prelude.{◌≡◌, ℕ, ◌==◌, ◌&&◌, Bool, false, L
 use Rattle.std.specs.Prelude.{if◌then◌else◌}
 use Rattle.std.specs.Str.{bytes_eq}
 use Rattle.cm_names.specs.KeyTables.{or_else}
-use Rattle.cm_wit_keys.specs.FirstKeys.{look_up}
-use Rattle.cm_wit_keys.specs.declared.first_keys.FirstKeys.{FirstKeys}
+use Rattle.cm_wit_names.specs.FirstKeys.{look_up}
+use Rattle.cm_wit_names.specs.declared.first_keys.FirstKeys.{FirstKeys}
 use Rattle.cm_wit_names.specs.Mentions.{Mention}
 use Rattle.cm_wit_names.specs.Known.{known_at}
 

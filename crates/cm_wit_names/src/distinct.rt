@@ -7,11 +7,11 @@ ghost use Rattle.cm_wit_names.specs.Distinct.{Adds, Has, IsIn, Notes};
 ghost use Rattle.cm_wit_names.specs.Known.{IsAt};
 ghost use Rattle.cm_wit_names.specs.Rules.{IsLeast, IsTaken, folded, is_self, own_part, told_by};
 
+use crate::first_keys::FirstKeys;
 use crate::full_names::{folded, folded_text, has_no_capital};
 use crate::names::Names;
 use crate::{ListedName, Mention};
 use cm_types::ExternNameForm;
-use cm_wit_keys::FirstKeys;
 use std::alloc::{AllocError, Global};
 
 /// An interface's name without its package.

@@ -6,8 +6,8 @@ ghost use Rattle.cm_wit_names.specs.MentionViews.{mention_view};
 ghost use Rattle.cm_wit_names.specs.Table.{IsTableOf, Notes};
 
 use crate::Mention;
+use crate::first_keys::FirstKeys;
 use cm_types::Label;
-use cm_wit_keys::FirstKeys;
 use std::alloc::{AllocError, Global};
 
 /// Puts the number and the name by which a mention is known into a table, where they do not stand

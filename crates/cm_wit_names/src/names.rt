@@ -5,9 +5,9 @@ ghost use Rattle.cm_wit_names.specs.MentionViews.{mention_view, reference_view};
 ghost use Rattle.cm_wit_names.specs.Known.{known_at, target};
 ghost use Rattle.cm_wit_names.specs.Table.{IsTableOf};
 
+use crate::first_keys::FirstKeys;
 use crate::known::known_names;
 use crate::{Mention, Reference};
-use cm_wit_keys::FirstKeys;
 use std::alloc::{AllocError, Global};
 
 /// What each name of a file says, and what is known by which name.

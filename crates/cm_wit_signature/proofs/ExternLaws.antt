@@ -11,24 +11,24 @@ use Rattle.cm_types_arena.specs.Places.{types_of, funcs_of}
 use Rattle.cm_types_arena.specs.declared.types.Types.{Types}
 use Rattle.cm_types_arena.specs.Placed.{moved_by}
 use Rattle.cm_types_arena.specs.Instances.{replaced_item}
-use Rattle.cm_types_signatures.specs.Shared.{shared_items_of, are_shared_items_there, shared_desc_of, shared_extern_of, shared_externs_of, is_shared_there}
-use Rattle.cm_types_signatures.specs.SharedNames.{text_in}
-use Rattle.cm_types_signatures.specs.declared.names.Front.{Front}
-use Rattle.cm_types_signatures.specs.declared.shared.SharedDesc.{SharedDesc}
-use Rattle.cm_types_signatures.specs.declared.shared.SharedDesc.TheVariants as shared
-use Rattle.cm_types_signatures.specs.declared.shared.SharedExtern.{SharedExtern}
-use Rattle.cm_types_signatures.specs.declared.shared.SharedExterns.{SharedExterns}
-use Rattle.cm_types_signatures.specs.declared.shared.SharedItems.{SharedItems}
+use Rattle.cm_types_arena.specs.Shared.{shared_items_of, are_shared_items_there, shared_desc_of, shared_extern_of, shared_externs_of, is_shared_there}
+use Rattle.cm_types_arena.specs.SharedNames.{text_in}
+use Rattle.cm_types_arena.specs.declared.names.Front.{Front}
+use Rattle.cm_types_arena.specs.declared.shared.SharedDesc.{SharedDesc}
+use Rattle.cm_types_arena.specs.declared.shared.SharedDesc.TheVariants as shared
+use Rattle.cm_types_arena.specs.declared.shared.SharedExtern.{SharedExtern}
+use Rattle.cm_types_arena.specs.declared.shared.SharedExterns.{SharedExterns}
+use Rattle.cm_types_arena.specs.declared.shared.SharedItems.{SharedItems}
 use Rattle.cm_wit_worlds.specs.Interfaces.{PlacedInterface, PlacedWorld}
 use Rattle.cm_wit_meanings.specs.declared.fault.MeaningFault.{MeaningFault}
 use Rattle.cm_wit_meanings.specs.declared.fault.MeaningFault.TheVariants as fault
 use Rattle.cm_wit_meanings.specs.Places.{Extends}
-use Rattle.cm_wit_items.specs.ItemFaults.{AreWithin, are_spelled, IsFaultWith}
-use Rattle.cm_wit_items.specs.Functions.{extern_funcs, funcs_in}
-use Rattle.cm_wit_items.specs.Signatures.{NamedFunc, Scopes, interface_extern, instance_extern, func_extern, func_at, in_front, func_in_front, externs_from, with_exports}
+use Rattle.cm_wit_signature.specs.ItemFaults.{AreWithin, are_spelled, IsFaultWith}
+use Rattle.cm_wit_signature.specs.Functions.{extern_funcs, funcs_in}
+use Rattle.cm_wit_signature.specs.Signatures.{NamedFunc, Scopes, interface_extern, instance_extern, func_extern, func_at, in_front, func_in_front, externs_from, with_exports}
 use Rattle.cm_wit_signature.specs.Adding.{behind, AreExternsFault, Adds}
 use Rattle.cm_wit_signature.specs.PartViews.{are_made_there}
-use Rattle.cm_wit_items.proofs.ItemLaws.{all_both as all_joined, first_unspelled, all_left, all_right, second_unspelled}
+use Rattle.cm_wit_signature.proofs.ItemLaws.{all_both as all_joined, first_unspelled, all_left, all_right, second_unspelled}
 use Rattle.cm_lemmas.proofs.Numbers.{below_more, less_of, lt_true, lt_false}
 use Rattle.cm_wit_meanings.proofs.GrowthLaws.{extends_length}
 use Rattle.cm_lemmas.proofs.Bools.{both_left, both_right}

@@ -3,14 +3,14 @@ use Rattle.std.proofs.Common.{◌≡◌, ◌∙◌, ◌<◌, ◌≤◌, ℕ, Lis
 use Rattle.std.specs.Option.{option_map, option_and_then}
 use Rattle.std.specs.List.{position_from}
 use Rattle.std.proofs.lemmas.Option.{slice_get-map, slice_get_past, slice_get-get_or}
-use Rattle.cm_types_signatures.specs.declared.signatures.Signature.{Signature}
+use Rattle.cm_types_arena.specs.declared.signatures.Signature.{Signature}
 use Rattle.cm_wit_reading.specs.Trees.{File}
 use Rattle.cm_wit_worlds.specs.Interfaces.{PlacedWorld, worlds, is_world}
 use Rattle.cm_wit_worlds.specs.InterfaceViews.{placed_world}
 use Rattle.cm_wit_worlds.specs.declared.placed.PlacedWorld as code_world
 use Rattle.cm_wit_worlds.specs.declared.fault.WorldFault.{WorldFault}
 use Rattle.cm_wit_worlds.specs.declared.fault.WorldFault.TheVariants as fault
-use Rattle.cm_wit_items.specs.Faults.{IsFaultIn, IsFaultOfWorld, world_of}
+use Rattle.cm_wit_signature.specs.Faults.{IsFaultIn, IsFaultOfWorld, world_of}
 
 module _ (fs : List File) (name : List ℕ) (ws : List code_world.PlacedWorld) (n : ℕ) (e : map placed_world ws ≡ worlds fs) (at : position_from (is_world fs name) 0 (map placed_world ws) ≡ Some n) where
   world_there : world_of fs name ≡ slice_get (worlds fs) n

@@ -11,9 +11,9 @@ use Rattle.cm_wit_worlds.specs.Interfaces.{PlacedInterface, PlacedWorld, interfa
 use Rattle.cm_wit_tables.specs.Declarations.{Declaration, keys_of, target, names_in, names_in_all, names_in_payload}
 use Rattle.cm_wit_tables.specs.TypeFaults.{IsResource, LeadsToType, LeadsToResource, borrowed_in, borrowed_in_all, borrowed_in_payload}
 use Rattle.cm_wit_tables.specs.Worlds.{Instance}
-use Rattle.cm_wit_items.specs.Members.{Member, used, declared, of_resource, function, members}
-use Rattle.cm_wit_items.specs.Signatures.{item_func, extern_func}
-use Rattle.cm_wit_items.specs.Named.{Lead, ParamsHaveTypes, FuncHasTypes, ResourceFuncHasTypes, MemberHasTypes, InstancesHaveTypes, OwnFuncsHaveTypes, names_in_params, borrowed_in_params}
+use Rattle.cm_wit_signature.specs.Members.{Member, used, declared, of_resource, function, members}
+use Rattle.cm_wit_signature.specs.Signatures.{item_func, extern_func}
+use Rattle.cm_wit_signature.specs.Named.{Lead, ParamsHaveTypes, FuncHasTypes, ResourceFuncHasTypes, MemberHasTypes, InstancesHaveTypes, OwnFuncsHaveTypes, names_in_params, borrowed_in_params}
 use Rattle.cm_wit_signature.specs.Tests as test
 use Rattle.cm_lemmas.proofs.Lists.{all_both, all_left, all_right}
 use Rattle.cm_lemmas.proofs.Bools.{both_true}

@@ -16,3 +16,11 @@ mod MarkLaws
 mod TypedLaws
 mod ReachLaws
 mod PackageLaws
+mod ThereLaws
+mod OwnLaws
+mod WorldLaws
+mod ItemListLaws
+mod EachLaws
+mod PushLaws
+pub mod ItemLaws
+mod FrontLaws

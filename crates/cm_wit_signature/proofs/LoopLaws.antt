@@ -7,15 +7,15 @@ use Rattle.cm_types.specs.Signatures.{NamedExtern}
 use Rattle.cm_names.specs.Listed.{listed}
 use Rattle.cm_types_arena.specs.Places.{types_of, funcs_of}
 use Rattle.cm_types_arena.specs.declared.types.Types.{Types}
-use Rattle.cm_types_signatures.specs.declared.shared.SharedExtern.{SharedExtern}
+use Rattle.cm_types_arena.specs.declared.shared.SharedExtern.{SharedExtern}
 use Rattle.cm_wit_meanings.specs.declared.fault.MeaningFault.{MeaningFault}
 use Rattle.cm_wit_meanings.specs.declared.scope.Meaning.{Meaning}
 use Rattle.cm_wit_meanings.specs.Scopes as meant
 use Rattle.cm_wit_meanings.specs.Places.{ArePlaced, Extends, table_in}
-use Rattle.cm_wit_items.specs.ItemFaults.{AreWithin}
-use Rattle.cm_wit_items.specs.Functions.{extern_funcs}
-use Rattle.cm_wit_items.specs.Own.{AreOwn}
-use Rattle.cm_wit_items.specs.Signatures.{Scopes, externs_from}
+use Rattle.cm_wit_signature.specs.ItemFaults.{AreWithin}
+use Rattle.cm_wit_signature.specs.Functions.{extern_funcs}
+use Rattle.cm_wit_signature.specs.Own.{AreOwn}
+use Rattle.cm_wit_signature.specs.Signatures.{Scopes, externs_from}
 use Rattle.cm_wit_meanings.specs.Scopes.{scope_at}
 use Rattle.cm_wit_signature.specs.Adding.{behind, AreExternsFault, Adds}
 use Rattle.cm_wit_signature.specs.PartViews.{scopes_in, interfaces_in, world_in, externs_made, are_made_there}

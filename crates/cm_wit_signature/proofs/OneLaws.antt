@@ -9,18 +9,18 @@ use Rattle.cm_types_arena.specs.Replaced.{replaced, replaced_func}
 use Rattle.cm_types_arena.specs.Placed.{moved_by}
 use Rattle.cm_types_arena.specs.Instances.{replaced_desc, replaced_item}
 use Rattle.cm_types_arena.specs.declared.placed.Placed.{Placed}
-use Rattle.cm_types_signatures.specs.Shared.{shared_desc_of}
-use Rattle.cm_types_signatures.specs.declared.shared.SharedDesc.TheVariants as shared
+use Rattle.cm_types_arena.specs.Shared.{shared_desc_of}
+use Rattle.cm_types_arena.specs.declared.shared.SharedDesc.TheVariants as shared
 use Rattle.cm_wit_worlds.specs.Interfaces.{PlacedInterface, full_name}
 use Rattle.cm_wit_meanings.specs.declared.fault.MeaningFault.{MeaningFault}
 use Rattle.cm_wit_meanings.specs.declared.fault.MeaningFault.TheVariants as fault
 use Rattle.cm_wit_meanings.specs.Faults.{IsFuncFault}
 use Rattle.cm_wit_meanings.specs.Meanings.{func_meaning}
 use Rattle.cm_wit_meanings.specs.Scopes.{Scope}
-use Rattle.cm_wit_items.specs.ItemFaults.{AreWithin, IsFaultWith, AreItemsFault}
-use Rattle.cm_wit_items.specs.Functions.{item_funcs, extern_funcs}
-use Rattle.cm_wit_items.specs.Members.{items_in}
-use Rattle.cm_wit_items.specs.Signatures.{NamedFunc, func_extern, interface_extern}
+use Rattle.cm_wit_signature.specs.ItemFaults.{AreWithin, IsFaultWith, AreItemsFault}
+use Rattle.cm_wit_signature.specs.Functions.{item_funcs, extern_funcs}
+use Rattle.cm_wit_signature.specs.Members.{items_in}
+use Rattle.cm_wit_signature.specs.Signatures.{NamedFunc, func_extern, interface_extern}
 
 -- ---- a function of the world itself
 

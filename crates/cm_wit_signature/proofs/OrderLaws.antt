@@ -1,15 +1,15 @@
 -- What a world imports and exports, and what is known of its instances.
 use Rattle.std.proofs.Common.{◌≡◌, ℕ, List, Result, Ok, Err, IfOk, IfErr, Some, length, subst}
-use Rattle.cm_types_signatures.specs.Signatures.{signature_of}
-use Rattle.cm_types_signatures.specs.declared.signatures.Signature.{Signature}
+use Rattle.cm_types_arena.specs.Signatures.{signature_of}
+use Rattle.cm_types_arena.specs.declared.signatures.Signature.{Signature}
 use Rattle.cm_wit_reading.specs.Trees.{File}
 use Rattle.cm_wit_worlds.specs.Interfaces.{PlacedInterface, PlacedWorld, interfaces}
 use Rattle.cm_wit_tables.specs.Declarations.{Declaration}
 use Rattle.cm_wit_tables.specs.Worlds.{Instance, instances, declarations}
 use Rattle.cm_wit_worlds.specs.Worlds.{AreWorldExterns}
 use Rattle.cm_wit_worlds.specs.declared.fault.WorldFault.{WorldFault}
-use Rattle.cm_wit_items.specs.Faults.{IsFaultIn, IsWorldSignature, world_of}
-use Rattle.cm_wit_items.specs.Named.{HaveTypes}
+use Rattle.cm_wit_signature.specs.Faults.{IsFaultIn, IsWorldSignature, world_of}
+use Rattle.cm_wit_signature.specs.Named.{HaveTypes}
 use Rattle.cm_wit_signature.specs.Sides.{interfaces_below}
 use Rattle.cm_wit_signature.specs.Typed.{IsTyped}
 

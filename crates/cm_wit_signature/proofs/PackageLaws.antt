@@ -4,9 +4,9 @@ use Rattle.std.specs.List.{filter_map}
 use Rattle.std.specs.Option.{option_map}
 use Rattle.std.proofs.lemmas.Option.{get_or_from_slice_get, slice_get-map}
 use Rattle.cm_types.specs.ExternNames.{name_spelling}
-use Rattle.cm_types_signatures.specs.SharedNames.{name_with, text_in}
-use Rattle.cm_types_signatures.specs.declared.names.Front.{Front}
-use Rattle.cm_types_signatures.specs.declared.names.Front.TheVariants as front
+use Rattle.cm_types_arena.specs.SharedNames.{name_with, text_in}
+use Rattle.cm_types_arena.specs.declared.names.Front.{Front}
+use Rattle.cm_types_arena.specs.declared.names.Front.TheVariants as front
 use Rattle.cm_wit_reading.specs.Trees.{File, FileItem, interface, world}
 use Rattle.cm_wit_worlds.specs.Interfaces.{PlacedInterface, full_name, interface_in, interfaces, interfaces_from}
 use Rattle.cm_wit_signature.specs.PackageFronts.{HavePackages, package_front, package_fronts}

@@ -9,8 +9,8 @@ use Rattle.cm_wit_tables.specs.Worlds.{Instance}
 use Rattle.cm_wit_worlds.specs.Worlds.{rows_of, named, HasNoInterface, HasInterfaceCycle}
 use Rattle.cm_wit_worlds.specs.declared.fault.WorldFault.{WorldFault}
 use Rattle.cm_wit_worlds.specs.declared.fault.WorldFault.TheVariants as fault
-use Rattle.cm_wit_items.specs.Faults.{IsFaultIn}
-use Rattle.cm_wit_items.specs.Named.{AreInstances, AreReached, in_cycle, imported}
+use Rattle.cm_wit_signature.specs.Faults.{IsFaultIn}
+use Rattle.cm_wit_signature.specs.Named.{AreInstances, AreReached, in_cycle, imported}
 use Rattle.cm_wit_signature.specs.Typing.{IsTypingFault}
 
 pub reached_instances : (fs : List File) (w : PlacedWorld) (marks seen : List Bool) (ks : List ℕ) (xs : List Instance) → HasInterfaceCycle fs w → seen ≡ marks → xs ≡ map imported ks → ((k : ℕ) → IsMarked marks k ↔ IsReached (rows_of fs) (named fs w) k) → ((k : ℕ) → Contains ks k ↔ IsMarked seen k) → AreInstances fs w xs

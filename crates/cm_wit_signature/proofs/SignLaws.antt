@@ -7,7 +7,7 @@ use Rattle.cm_types.specs.Signatures.{SignatureTy}
 use Rattle.cm_names.specs.Keys.{Key}
 use Rattle.cm_wit_reading.specs.Trees.{File}
 use Rattle.cm_wit_worlds.specs.Interfaces.{PlacedInterface, PlacedWorld, interfaces}
-use Rattle.cm_wit_items.specs.ItemFaults.{AreWithin, IsFaultWith}
+use Rattle.cm_wit_signature.specs.ItemFaults.{AreWithin, IsFaultWith}
 use Rattle.cm_wit_meanings.specs.Faults.{IsFuncWithin, is_func_spellable}
 use Rattle.cm_wit_meanings.specs.Scopes.{Meaning, as_type}
 use Rattle.cm_wit_meanings.specs.declared.fault.MeaningFault.{MeaningFault}
@@ -16,14 +16,14 @@ use Rattle.cm_wit_tables.specs.Declarations.{Declaration, HasTypeCycle, keys_of}
 use Rattle.cm_wit_tables.specs.Tables.{Solves}
 use Rattle.cm_wit_tables.specs.TypeFaults.{AllHaveTypes}
 use Rattle.cm_wit_tables.specs.Worlds.{Instance, instances, declarations}
-use Rattle.cm_wit_items.specs.Faults.{IsWorldSignature, IsFaultIn, IsTooLargeIn, world_of, AreTypesWithin}
-use Rattle.cm_wit_items.specs.Functions.{funcs_in}
-use Rattle.cm_wit_items.specs.Named.{HaveTypes, in_order}
-use Rattle.cm_wit_items.specs.Signatures.{signature_in, interfaces_among}
+use Rattle.cm_wit_signature.specs.Faults.{IsWorldSignature, IsFaultIn, IsTooLargeIn, world_of, AreTypesWithin}
+use Rattle.cm_wit_signature.specs.Functions.{funcs_in}
+use Rattle.cm_wit_signature.specs.Named.{HaveTypes, in_order}
+use Rattle.cm_wit_signature.specs.Signatures.{signature_in, interfaces_among}
 use Rattle.cm_wit_tables.specs.declared.fault.TableFault.{TableFault}
 use Rattle.cm_wit_tables.specs.declared.fault.TableFault.TheVariants as table
 use Rattle.cm_wit_tables.specs.TableFaults.{IsTableFault}
-use Rattle.cm_wit_signature.specs.Faults.{fault_of_table, fault_of_meaning}
+use Rattle.cm_wit_signature.specs.WorldFaults.{fault_of_table, fault_of_meaning}
 use Rattle.cm_wit_signature.specs.Made.{signature_made}
 use Rattle.cm_wit_signature.specs.Typed.{IsTyped}
 use Rattle.cm_wit_signature.proofs.MadeLaws.{four}

@@ -8,7 +8,7 @@ use Rattle.cm_wit_tables.specs.TypeFaults.{AllHaveTypes}
 use Rattle.cm_wit_tables.specs.Worlds.{declarations}
 use Rattle.cm_wit_tables.specs.DeclaredViews.{instance_view}
 use Rattle.cm_wit_tables.specs.declared.declarations.Instance as code_instance
-use Rattle.cm_wit_items.specs.Named.{HaveTypes, InstancesHaveTypes, OwnFuncsHaveTypes}
+use Rattle.cm_wit_signature.specs.Named.{HaveTypes, InstancesHaveTypes, OwnFuncsHaveTypes}
 
 module _ (fs : List File) (w : PlacedWorld) (instances : List code_instance.Instance) (ds : List Declaration) (e : ds ≡ declarations fs (map instance_view instances)) where
   pub have_types : AllHaveTypes ds → InstancesHaveTypes fs ds (map instance_view instances) → OwnFuncsHaveTypes w ds (length instances) → HaveTypes fs w (map instance_view instances)

@@ -5,9 +5,9 @@ use Rattle.std.specs.Option.{option_map}
 use Rattle.cm_types.specs.Signatures.{NamedExtern}
 use Rattle.cm_wit_worlds.specs.Interfaces.{PlacedInterface, PlacedWorld}
 use Rattle.cm_wit_meanings.specs.declared.fault.MeaningFault.{MeaningFault}
-use Rattle.cm_wit_items.specs.ItemFaults.{AreWithin, IsFaultWith}
-use Rattle.cm_wit_items.specs.Functions.{extern_funcs}
-use Rattle.cm_wit_items.specs.Signatures.{Scopes, externs_from}
+use Rattle.cm_wit_signature.specs.ItemFaults.{AreWithin, IsFaultWith}
+use Rattle.cm_wit_signature.specs.Functions.{extern_funcs}
+use Rattle.cm_wit_signature.specs.Signatures.{Scopes, externs_from}
 
 -- these behind those, where they are there
 abbrev pub behind : List NamedExtern → Option (List NamedExtern) → Option (List NamedExtern)

@@ -1,8 +1,7 @@
-pub use Rattle.cm_wit_items.specs as cm_wit_items
 pub mod PackageFronts
 pub mod PartViews
 pub mod Adding
-pub mod Faults
+pub mod WorldFaults
 pub mod Typed
 pub mod Made
 pub mod Written
@@ -10,3 +9,12 @@ pub mod Files
 pub mod Tests
 pub mod Sides
 pub mod Typing
+pub mod Members
+pub mod Functions
+pub mod Signatures
+pub mod Named
+pub mod Faults
+pub mod Own
+pub mod MemberViews
+pub mod ItemFaults
+pub mod Fronts

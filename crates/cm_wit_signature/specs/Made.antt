@@ -4,7 +4,7 @@ use Rattle.cm_types.specs.Signatures.{SignatureTy}
 use Rattle.cm_names.specs.Keys.{Key}
 use Rattle.cm_wit_worlds.specs.Interfaces.{PlacedInterface, PlacedWorld}
 use Rattle.cm_wit_meanings.specs.Scopes.{Meaning, scope_at}
-use Rattle.cm_wit_items.specs.Signatures.{externs_from, with_exports}
+use Rattle.cm_wit_signature.specs.Signatures.{externs_from, with_exports}
 
 -- That of these interfaces and this world, where these keys stand for what a table has, the list
 -- of names of the world's own functions is `own`, and the first exported instance has the list

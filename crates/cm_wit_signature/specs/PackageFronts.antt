@@ -2,8 +2,8 @@
 -- Definitions").
 use Rattle.std.specs.Prelude.{◌≡◌, List, ◌∷◌, Some, map, slice_get}
 use Rattle.std.specs.List.{AllByRecursion}
-use Rattle.cm_types_signatures.specs.declared.names.Front.{Front}
-use Rattle.cm_types_signatures.specs.declared.names.Front.TheVariants as front
+use Rattle.cm_types_arena.specs.declared.names.Front.{Front}
+use Rattle.cm_types_arena.specs.declared.names.Front.TheVariants as front
 use Rattle.cm_wit_reading.specs.Trees.{File}
 use Rattle.cm_wit_worlds.specs.Interfaces.{PlacedInterface}
 

@@ -4,9 +4,9 @@ use Rattle.cm_types.specs.Signatures.{NamedExtern}
 use Rattle.cm_types.specs.Types.{Ty}
 use Rattle.cm_types_arena.specs.Places.{funcs_of, types_of}
 use Rattle.cm_types_arena.specs.declared.types.Types.{Types}
-use Rattle.cm_types_signatures.specs.Shared.{are_shared_externs_there, shared_extern_of}
-use Rattle.cm_types_signatures.specs.declared.names.Front.{Front}
-use Rattle.cm_types_signatures.specs.declared.shared.SharedExtern.{SharedExtern}
+use Rattle.cm_types_arena.specs.Shared.{are_shared_externs_there, shared_extern_of}
+use Rattle.cm_types_arena.specs.declared.names.Front.{Front}
+use Rattle.cm_types_arena.specs.declared.shared.SharedExtern.{SharedExtern}
 use Rattle.cm_names.specs.Listed.{listed}
 use Rattle.cm_wit_reading.specs.SignatureViews.{func_tree}
 use Rattle.cm_wit_worlds.specs.Interfaces.{PlacedInterface, PlacedWorld}
@@ -14,7 +14,7 @@ use Rattle.cm_wit_reading.specs.Trees.{File}
 use Rattle.cm_wit_worlds.specs.InterfaceViews.{files_of, placed_interface, placed_world}
 use Rattle.cm_wit_meanings.specs.Places.{table_in}
 use Rattle.cm_wit_meanings.specs.Scopes.{scope_at}
-use Rattle.cm_wit_items.specs.Signatures.{NamedFunc, Scopes}
+use Rattle.cm_wit_signature.specs.Signatures.{NamedFunc, Scopes}
 use Rattle.cm_wit_signature.specs.PackageFronts.{package_fronts}
 use Rattle.cm_wit_signature.specs.declared.parts.Parts.{Parts}
 use Rattle.cm_wit_signature.specs.declared.parts.OwnFunc.{OwnFunc}

@@ -3,8 +3,8 @@
 use Rattle.std.specs.Prelude.{◌≡◌, ℕ, Bool, true, false, ◌&&◌, List, Option, Some, None, is_some}
 use Rattle.std.specs.Prelude.{slice_get, slice_index_or, [], ◌∷◌, ◌+◌}
 use Rattle.std.specs.List.{list_all}
-use Rattle.cm_types_signatures.specs.declared.names.Front.{Front}
-use Rattle.cm_types_signatures.specs.declared.names.Front.TheVariants as front
+use Rattle.cm_types_arena.specs.declared.names.Front.{Front}
+use Rattle.cm_types_arena.specs.declared.names.Front.TheVariants as front
 use Rattle.cm_names.specs.Keys.{Key, first_key}
 use Rattle.cm_wit_reading.specs.Types.{Ty, Tys, primitive, named, borrow, list, fixed_list, option}
 use Rattle.cm_wit_reading.specs.Types.{tuple, plain_result, ok_result, error_result, result}
@@ -14,10 +14,10 @@ use Rattle.cm_wit_reading.specs.Trees.{ResourceFunc, method, static, constructor
 use Rattle.cm_wit_reading.specs.Trees.{WorldExtern, interface_at, named_func, imports, exports}
 use Rattle.cm_wit_worlds.specs.Interfaces.{PlacedInterface}
 use Rattle.cm_wit_tables.specs.Worlds.{Instance}
-use Rattle.cm_wit_items.specs.Members.{Member, used, declared, of_resource, function}
-use Rattle.cm_wit_items.specs.Members.{members}
-use Rattle.cm_wit_items.specs.declared.members.Member as code
-use Rattle.cm_wit_items.specs.declared.members.Member.TheVariants as member
+use Rattle.cm_wit_signature.specs.Members.{Member, used, declared, of_resource, function}
+use Rattle.cm_wit_signature.specs.Members.{members}
+use Rattle.cm_wit_signature.specs.declared.members.Member as code
+use Rattle.cm_wit_signature.specs.declared.members.Member.TheVariants as member
 
 -- whether there is a place, and it is marked
 abbrev pub is_marked_place : List Bool → Option ℕ → Bool

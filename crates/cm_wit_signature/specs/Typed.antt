@@ -5,8 +5,8 @@ use Rattle.cm_wit_worlds.specs.Interfaces.{PlacedInterface, PlacedWorld, interfa
 use Rattle.cm_wit_tables.specs.Declarations.{Declaration}
 use Rattle.cm_wit_tables.specs.Worlds.{Instance, instances, declarations}
 use Rattle.cm_wit_worlds.specs.Worlds.{AreWorldExterns}
-use Rattle.cm_wit_items.specs.Named.{HaveTypes}
-use Rattle.cm_wit_items.specs.Signatures.{interfaces_among}
+use Rattle.cm_wit_signature.specs.Named.{HaveTypes}
+use Rattle.cm_wit_signature.specs.Signatures.{interfaces_among}
 
 -- These are the interfaces of packages, and what the world imports and exports, in order; its
 -- instances, the number of those that it imports, and what they declare; and each name leads to a

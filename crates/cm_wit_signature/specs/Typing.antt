@@ -5,7 +5,7 @@ use Rattle.cm_wit_worlds.specs.Interfaces.{PlacedWorld}
 use Rattle.cm_wit_tables.specs.Worlds.{Instance}
 use Rattle.cm_wit_worlds.specs.declared.fault.WorldFault.{WorldFault}
 use Rattle.cm_wit_worlds.specs.declared.fault.WorldFault.TheVariants as fault
-use Rattle.cm_wit_items.specs.Named.{HaveTypes}
+use Rattle.cm_wit_signature.specs.Named.{HaveTypes}
 
 -- A name in these instances of a world leads to no type. Where memory ran out nothing is said.
 abbrev pub IsTypingFault : List File → PlacedWorld → List Instance → WorldFault → Type 0

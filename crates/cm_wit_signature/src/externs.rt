@@ -4,28 +4,27 @@ ghost use Rattle.std.specs.Prelude.{◌≡◌, ◌≤◌, ◌+◌, ◌<◌, ◌^
 ghost use Rattle.std.specs.Prelude.{IfOk, IfErr, OnOk, length, slice_get};
 ghost use Rattle.std.specs.List.{flat_map};
 ghost use Rattle.cm_types_arena.specs.Places.{funcs_of, types_of};
-ghost use Rattle.cm_types_signatures.specs.Shared.{is_shared_there, shared_externs_of};
+ghost use Rattle.cm_types_arena.specs.Shared.{is_shared_there, shared_externs_of};
 ghost use Rattle.cm_wit_reading.specs.Views.{file_tree};
 ghost use Rattle.cm_wit_worlds.specs.InterfaceViews.{placed_interface};
 ghost use Rattle.cm_wit_meanings.specs.Places.{ArePlaced, Extends};
-ghost use Rattle.cm_wit_items.specs.ItemFaults.{AreWithin, IsFaultWith};
-ghost use Rattle.cm_wit_items.specs.Functions.{extern_funcs};
-ghost use Rattle.cm_wit_items.specs.Own.{AreOwn};
-ghost use Rattle.cm_wit_items.specs.Signatures.{externs_from, func_extern};
-ghost use Rattle.cm_wit_items.specs.Signatures.{interface_extern};
+ghost use Rattle.cm_wit_signature.specs.ItemFaults.{AreWithin, IsFaultWith};
+ghost use Rattle.cm_wit_signature.specs.Functions.{extern_funcs};
+ghost use Rattle.cm_wit_signature.specs.Own.{AreOwn};
+ghost use Rattle.cm_wit_signature.specs.Signatures.{externs_from, func_extern};
+ghost use Rattle.cm_wit_signature.specs.Signatures.{interface_extern};
 ghost use Rattle.cm_wit_signature.specs.Adding.{Adds, AreExternsFault, AreExternsWithin, behind};
 ghost use Rattle.cm_wit_signature.specs.PackageFronts.{HavePackages};
 ghost use Rattle.cm_wit_signature.specs.PartViews.{are_made_there, extern_made, externs_made};
 ghost use Rattle.cm_wit_signature.specs.PartViews.{files_in, interfaces_in, own_func_view};
 ghost use Rattle.cm_wit_signature.specs.PartViews.{scopes_in, world_in};
 
+use crate::item_laws::{items_stay, tables_stay};
+use crate::items::push_items;
 use crate::package_fronts;
 use crate::parts::{OwnFunc, Parts};
 use cm_types_arena::placed_laws::unmoved;
-use cm_types_arena::{Placed, Types};
-use cm_types_signatures::{SharedDesc, SharedExtern, SharedExterns, SharedName};
-use cm_wit_items::laws::{items_stay, tables_stay};
-use cm_wit_items::push_items;
+use cm_types_arena::{Placed, SharedDesc, SharedExtern, SharedExterns, SharedName, Types};
 use cm_wit_meanings::{MeaningFault, push_func};
 use cm_wit_worlds::PlacedInterface;
 use std::alloc::Global;
@@ -215,7 +214,7 @@ fn add_number(
 /// interfaces. The names of the first instance are those of the list `first`.
 ///
 /// Their names share the fronts of the packages. Faults come as those of
-/// `cm_wit_items::push_items` and `cm_wit_meanings::push_func`. It costs what `package_fronts`
+/// `crate::items::push_items` and `cm_wit_meanings::push_func`. It costs what `package_fronts`
 /// does, the texts' own length and a look-up for each of their names.
 pub fn push_externs(
     alloc: Global,

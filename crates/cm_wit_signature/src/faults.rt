@@ -1,7 +1,7 @@
 //! The faults of worlds that those of tables and of meanings are.
 
 ghost use Rattle.std.specs.Prelude.{◌≡◌};
-ghost use Rattle.cm_wit_signature.specs.Faults.{fault_of_meaning, fault_of_table};
+ghost use Rattle.cm_wit_signature.specs.WorldFaults.{fault_of_meaning, fault_of_table};
 
 use cm_wit_meanings::MeaningFault;
 use cm_wit_tables::TableFault;

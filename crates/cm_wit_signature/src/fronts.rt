@@ -5,7 +5,7 @@ ghost use Rattle.cm_wit_reading.specs.Views.{file_tree};
 ghost use Rattle.cm_wit_worlds.specs.InterfaceViews.{files_of};
 ghost use Rattle.cm_wit_signature.specs.PackageFronts.{package_front, package_fronts};
 
-use cm_types_signatures::{Front, PackageName};
+use cm_types_arena::{Front, PackageName};
 use cm_wit_reading::WitFile;
 use std::alloc::{AllocError, Global};
 

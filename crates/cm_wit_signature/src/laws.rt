@@ -7,8 +7,8 @@ ghost use Rattle.cm_wit_worlds.specs.Interfaces.{PlacedWorld};
 ghost use Rattle.cm_wit_tables.specs.Worlds.{Instance};
 ghost use Rattle.cm_wit_worlds.specs.Worlds.{HasNoInterface};
 ghost use Rattle.cm_wit_worlds.specs.declared.fault.WorldFault.{WorldFault};
-ghost use Rattle.cm_wit_items.specs.Faults.{IsFaultIn};
-ghost use Rattle.cm_wit_items.specs.Named.{AreInstances};
+ghost use Rattle.cm_wit_signature.specs.Faults.{IsFaultIn};
+ghost use Rattle.cm_wit_signature.specs.Named.{AreInstances};
 ghost use Rattle.cm_wit_signature.specs.Typing.{IsTypingFault};
 
 /// Where each path leads to an interface, and a name in the instances of a world leads to no type,

@@ -5,7 +5,7 @@ ghost use Rattle.std.specs.Option.{option_map};
 ghost use Rattle.cm_types.specs.Types.{Ty};
 ghost use Rattle.cm_wit_worlds.specs.InterfaceViews.{placed_world};
 ghost use Rattle.cm_wit_meanings.specs.Places.{scope_in};
-ghost use Rattle.cm_wit_items.specs.Signatures.{extern_func, func_at, item_func};
+ghost use Rattle.cm_wit_signature.specs.Signatures.{extern_func, func_at, item_func};
 ghost use Rattle.cm_wit_reading.specs.Views.{extern_tree, world_item_tree};
 
 use cm_names::Keys;

@@ -6,8 +6,8 @@ ghost use Rattle.cm_wit_graph.specs.Graphs.{IsMarked};
 ghost use Rattle.cm_wit_tables.specs.DeclaredViews.{instance_view};
 ghost use Rattle.cm_wit_worlds.specs.Interfaces as spec;
 ghost use Rattle.cm_wit_worlds.specs.InterfaceViews.{files_of, placed_interface, placed_world};
-ghost use Rattle.cm_wit_items.specs.Faults.{HasCycle, IsFaultIn};
-ghost use Rattle.cm_wit_items.specs.Named.{imported};
+ghost use Rattle.cm_wit_signature.specs.Faults.{HasCycle, IsFaultIn};
+ghost use Rattle.cm_wit_signature.specs.Named.{imported};
 ghost use Rattle.cm_wit_worlds.specs.Worlds.{HasInterfaceCycle, HasNoInterface};
 
 use crate::typing::typed_declarations;

@@ -2,20 +2,19 @@
 
 ghost use Rattle.std.specs.Prelude.{◌≡◌, ◌<◌, ◌^◌, ℕ, Some, IfOk, IfErr, length};
 ghost use Rattle.cm_types_arena.specs.Places.{types_of};
-ghost use Rattle.cm_types_signatures.specs.Signatures.{signature_of};
+ghost use Rattle.cm_types_arena.specs.Signatures.{signature_of};
 ghost use Rattle.cm_wit_meanings.specs.Places.{ArePlaced};
-ghost use Rattle.cm_wit_items.specs.ItemFaults.{AreWithin, IsFaultWith};
-ghost use Rattle.cm_wit_items.specs.Functions.{funcs_in};
-ghost use Rattle.cm_wit_items.specs.Own.{AreOwn};
-ghost use Rattle.cm_wit_items.specs.Signatures.{externs_from, with_exports};
+ghost use Rattle.cm_wit_signature.specs.ItemFaults.{AreWithin, IsFaultWith};
+ghost use Rattle.cm_wit_signature.specs.Functions.{funcs_in};
+ghost use Rattle.cm_wit_signature.specs.Own.{AreOwn};
+ghost use Rattle.cm_wit_signature.specs.Signatures.{externs_from, with_exports};
 ghost use Rattle.cm_wit_signature.specs.PackageFronts.{HavePackages};
 ghost use Rattle.cm_wit_signature.specs.PartViews.{files_in, interfaces_in, scopes_in, world_in};
 
 use crate::externs::push_externs;
+use crate::item_laws::{items_stay, tables_stay};
 use crate::parts::Parts;
-use cm_types_arena::Types;
-use cm_types_signatures::{Externs, Signature};
-use cm_wit_items::laws::{items_stay, tables_stay};
+use cm_types_arena::{Externs, Signature, Types};
 use cm_wit_meanings::MeaningFault;
 use std::alloc::Global;
 

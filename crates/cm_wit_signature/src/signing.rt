@@ -2,17 +2,17 @@
 
 ghost use Rattle.std.specs.Prelude.{◌≡◌, ◌<◌, ◌^◌, ℕ, List, Some, IfOk, IfErr, length, map};
 ghost use Rattle.cm_names.specs.Listed.{listed};
-ghost use Rattle.cm_types_signatures.specs.Signatures.{signature_of};
+ghost use Rattle.cm_types_arena.specs.Signatures.{signature_of};
 ghost use Rattle.cm_types_arena.specs.Places.{types_of};
 ghost use Rattle.cm_wit_tables.specs.DeclaredViews.{declaration_view, instance_view};
 ghost use Rattle.cm_wit_worlds.specs.Interfaces as spec;
 ghost use Rattle.cm_wit_worlds.specs.InterfaceViews.{files_of, placed_interface, placed_world};
-ghost use Rattle.cm_wit_items.specs.ItemFaults.{AreWithin, IsFaultWith};
+ghost use Rattle.cm_wit_signature.specs.ItemFaults.{AreWithin, IsFaultWith};
 ghost use Rattle.cm_wit_meanings.specs.Places.{ArePlaced, table_in};
 ghost use Rattle.cm_wit_meanings.specs.Scopes.{scope_at};
-ghost use Rattle.cm_wit_items.specs.Faults.{IsFaultIn, IsWorldSignature, world_of};
-ghost use Rattle.cm_wit_items.specs.Functions.{funcs_in};
-ghost use Rattle.cm_wit_items.specs.Own.{AreOwn};
+ghost use Rattle.cm_wit_signature.specs.Faults.{IsFaultIn, IsWorldSignature, world_of};
+ghost use Rattle.cm_wit_signature.specs.Functions.{funcs_in};
+ghost use Rattle.cm_wit_signature.specs.Own.{AreOwn};
 ghost use Rattle.cm_wit_reading.specs.Trees.{File};
 ghost use Rattle.cm_wit_worlds.specs.Worlds.{AreWorldExterns};
 ghost use Rattle.cm_wit_signature.specs.Made.{signature_made};
@@ -21,10 +21,9 @@ ghost use Rattle.cm_wit_signature.specs.Typed.{IsTyped};
 
 use crate::faults::{fault_of_meaning, fault_of_table};
 use crate::laws::typing_faults_are_of_worlds;
+use crate::signature_laws::{resources_are_own, typed_ones_have_signatures};
 use crate::{Parts, Sources, WorldInstances, instances_of, signature_with, typed_declarations};
-use cm_types_arena::Types;
-use cm_types_signatures::Signature;
-use cm_wit_items::signature_laws::{resources_are_own, typed_ones_have_signatures};
+use cm_types_arena::{Signature, Types};
 use cm_wit_meanings::MeaningFault;
 use cm_wit_tables::{Declaration, Table, table_of};
 use cm_wit_worlds::{Directory, PlacedInterface, PlacedWorld, WorldExterns, WorldFault};

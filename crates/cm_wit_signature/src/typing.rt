@@ -5,7 +5,7 @@ ghost use Rattle.cm_wit_tables.specs.DeclaredViews.{declaration_view, instance_v
 ghost use Rattle.cm_wit_worlds.specs.Interfaces as spec;
 ghost use Rattle.cm_wit_worlds.specs.InterfaceViews.{files_of, placed_interface, placed_world};
 ghost use Rattle.cm_wit_tables.specs.Worlds.{declarations};
-ghost use Rattle.cm_wit_items.specs.Named.{HaveTypes};
+ghost use Rattle.cm_wit_signature.specs.Named.{HaveTypes};
 ghost use Rattle.cm_wit_signature.specs.Typing.{IsTypingFault};
 
 use crate::{all_have_types, members_have_types};

@@ -2,17 +2,17 @@
 
 ghost use Rattle.std.specs.Prelude.{◌≡◌, ℕ, List, Some, IfOk, IfErr, map};
 ghost use Rattle.std.specs.String.{string_bytes};
-ghost use Rattle.cm_types_signatures.specs.Signatures.{signature_of};
+ghost use Rattle.cm_types_arena.specs.Signatures.{signature_of};
 ghost use Rattle.cm_wit_package.specs.PackageViews.{package_tree};
 ghost use Rattle.cm_wit_worlds.specs.Interfaces as spec;
 ghost use Rattle.cm_wit_worlds.specs.Interfaces.{package_name};
 ghost use Rattle.cm_wit_worlds.specs.InterfaceViews.{files_of, placed_interface, placed_world};
-ghost use Rattle.cm_wit_items.specs.Faults.{IsFaultIn, IsFaultOfWorld};
-ghost use Rattle.cm_wit_items.specs.Faults.{IsWorldSignature, world_of};
+ghost use Rattle.cm_wit_signature.specs.Faults.{IsFaultIn, IsFaultOfWorld};
+ghost use Rattle.cm_wit_signature.specs.Faults.{IsWorldSignature, world_of};
 
 use crate::signing::signature_in_order;
 use crate::{cycle_fault, package_files};
-use cm_types_signatures::Signature;
+use cm_types_arena::Signature;
 use cm_wit_package::Package;
 use cm_wit_worlds::{
     Directory, PlacedInterface, PlacedWorld, WorldFault, externs_of, interfaces, package_names,

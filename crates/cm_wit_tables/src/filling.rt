@@ -11,11 +11,11 @@ ghost use Rattle.cm_wit_tables.specs.Filled.{AreWithin};
 ghost use Rattle.cm_wit_tables.specs.FillFaults.{IsFillFault};
 ghost use Rattle.cm_wit_tables.specs.Listings.{IsListing, declared};
 
-use crate::laws::{ordered_ones_can_be_ranked, ranked_ones_are_acyclic};
-use crate::listing::Listing;
-use crate::wit_declared_laws::{
+use crate::declared_laws::{
     each_stands_where_names_lead, one_table, what_is_used_decides, what_is_used_is_declared,
 };
+use crate::laws::{ordered_ones_can_be_ranked, ranked_ones_are_acyclic};
+use crate::listing::Listing;
 use cm_types_arena::Types;
 use cm_wit_meanings::{Meaning, MeaningFault};
 use std::alloc::{AllocError, Global};

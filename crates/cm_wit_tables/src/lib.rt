@@ -6,6 +6,7 @@
 #![tactic(auto)]
 
 mod declarations;
+pub mod declared_laws;
 mod entry;
 mod fault;
 mod filling;
@@ -19,8 +20,7 @@ mod placing;
 mod resources;
 mod rows;
 mod table;
-pub mod wit_declared_laws;
-mod wit_declared_listing;
+mod world_declarations;
 
 pub use declarations::{Declaration, Declared, Instance};
 pub use fault::TableFault;
@@ -32,4 +32,4 @@ pub use making::table_of;
 pub use resources::{resource_ids, resource_marks};
 pub use rows::use_rows;
 pub use table::Table;
-pub use wit_declared_listing::declarations_of;
+pub use world_declarations::declarations_of;

@@ -17,10 +17,10 @@ ghost use Rattle.cm_wit_tables.specs.Filled.{AreWithin};
 ghost use Rattle.cm_wit_tables.specs.FillFaults.{IsFillFault};
 ghost use Rattle.cm_wit_tables.specs.TableFaults.{IsTableFault};
 
+use crate::declared_laws::{each_stands_where_names_lead, what_is_used_is_declared};
 use crate::fault::{TableFault, table_fault};
 use crate::laws::{ordered_ones_can_be_ranked, ranked_ones_are_acyclic};
 use crate::table::Table;
-use crate::wit_declared_laws::{each_stands_where_names_lead, what_is_used_is_declared};
 use crate::{Declaration, Listing, all_lead, declaration_keys, fill, resource_ids, use_rows};
 use cm_names::Keys;
 use cm_types_arena::Types;

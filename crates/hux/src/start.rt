@@ -1,7 +1,8 @@
 //! The program on the machine that it runs on.
 
+use crate::painter::Painter;
+use crate::wanted::is_colored;
 use cm_hux::{Disk, DiskStreams, Ending, Fault, ToolFault, Usage, report, run_hux, words_of};
-use cm_hux_colors::{Painter, is_colored};
 use std::io;
 use std::io::{BufWriter, Input, IsTerminal, Write};
 use std::rt::{Env, Files};

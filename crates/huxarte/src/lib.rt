@@ -117,7 +117,7 @@ pub mod hosts {
 pub mod machine {
     pub use cm_machine::{
         Bump, Event, Flat, Guest, MAX_FRAMES, MAX_INSTANCES, MAX_MEMORY_SIZE, MAX_PAGES, Misuse,
-        Move, MoveQueue, Outcome, PAGE_SIZE, Place, Player, Room, SeeingGuest, Set, Trap,
+        Move, MoveQueue, Outcome, PAGE_SIZE, Place, Player, Room, SeeingGuest, Set, Trap, Watcher,
         WithAllocator, Work,
     };
 

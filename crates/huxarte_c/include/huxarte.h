@@ -122,59 +122,6 @@ enum HuxSort {
     HUX_SORT_BORROW = 11
 };
 
-/* How a command ended, and how many bytes it printed. */
-typedef struct HuxEnd {
-    /* The number of a `HuxKind`: HUX_KIND_FINE where a command ran, else HUX_KIND_OUTSIDE,
-     * HUX_KIND_NO_TEXT or HUX_KIND_MEMORY. */
-    uint32_t kind;
-    /* The exit status of the command that ran: 0 done, 1 refused, 2 usage, 3 trap, 4 input or
-     * output; else 0. */
-    uint32_t status;
-    /* How many bytes it printed on standard output. */
-    size_t out;
-    /* How many bytes it printed on standard error. */
-    size_t err;
-} HuxEnd;
-
-/* A part of the bytes that are handed over with it: where it begins, from 0, and how many bytes
- * it has. */
-typedef struct HuxSpan {
-    size_t at;
-    size_t length;
-} HuxSpan;
-
-/* An answer in numbers: what is wrong, and where. Files, sections, items and bytes count from 0;
- * a field that its kind does not speak of is 0. */
-typedef struct HuxVerdict {
-    /* The number of a `HuxKind`. */
-    uint32_t kind;
-    /* The number of the reason, as docs/RULES.md lists them. */
-    uint32_t reason;
-    /* Which file, of several. */
-    size_t file;
-    size_t place;
-    size_t item;
-} HuxVerdict;
-
-/* A type in memory and in core values (CanonicalABI.md, "Alignment", "Element Size" and
- * "Flattening"). */
-typedef struct HuxNode {
-    /* The number of a `HuxSort`. */
-    uint32_t sort;
-    /* Where it stands in the type that holds it, in bytes; 0 where it is the element of a list. */
-    uint32_t offset;
-    /* Its size, in bytes. */
-    uint32_t size;
-    /* Its alignment, in bytes. */
-    uint32_t align;
-    /* How many core values pass it. */
-    uint32_t width;
-    /* The size of the number of a case, in bytes; 0 where there are no cases. */
-    uint32_t discriminant;
-    /* How many labels, elements, fields or cases it has. */
-    size_t count;
-} HuxNode;
-
 /* What the allocator of a callee is asked for (CanonicalABI.md, `realloc`). */
 typedef struct HuxRequest {
     /* 1 where its old pointer is the answer to the request just before it; else 0, and it has
@@ -220,6 +167,59 @@ typedef struct HuxHandle {
     /* The call that borrowed it, where it was borrowed. */
     uint32_t call;
 } HuxHandle;
+
+/* A type in memory and in core values (CanonicalABI.md, "Alignment", "Element Size" and
+ * "Flattening"). */
+typedef struct HuxNode {
+    /* The number of a `HuxSort`. */
+    uint32_t sort;
+    /* Where it stands in the type that holds it, in bytes; 0 where it is the element of a list. */
+    uint32_t offset;
+    /* Its size, in bytes. */
+    uint32_t size;
+    /* Its alignment, in bytes. */
+    uint32_t align;
+    /* How many core values pass it. */
+    uint32_t width;
+    /* The size of the number of a case, in bytes; 0 where there are no cases. */
+    uint32_t discriminant;
+    /* How many labels, elements, fields or cases it has. */
+    size_t count;
+} HuxNode;
+
+/* How a command ended, and how many bytes it printed. */
+typedef struct HuxEnd {
+    /* The number of a `HuxKind`: HUX_KIND_FINE where a command ran, else HUX_KIND_OUTSIDE,
+     * HUX_KIND_NO_TEXT or HUX_KIND_MEMORY. */
+    uint32_t kind;
+    /* The exit status of the command that ran: 0 done, 1 refused, 2 usage, 3 trap, 4 input or
+     * output; else 0. */
+    uint32_t status;
+    /* How many bytes it printed on standard output. */
+    size_t out;
+    /* How many bytes it printed on standard error. */
+    size_t err;
+} HuxEnd;
+
+/* A part of the bytes that are handed over with it: where it begins, from 0, and how many bytes
+ * it has. */
+typedef struct HuxSpan {
+    size_t at;
+    size_t length;
+} HuxSpan;
+
+/* An answer in numbers: what is wrong, and where. Files, sections, items and bytes count from 0;
+ * a field that its kind does not speak of is 0. */
+typedef struct HuxVerdict {
+    /* The number of a `HuxKind`. */
+    uint32_t kind;
+    /* The number of the reason, as docs/RULES.md lists them. */
+    uint32_t reason;
+    /* Which file, of several. */
+    size_t file;
+    size_t place;
+    size_t item;
+} HuxVerdict;
 
 /* A file that is handed over: the parts of the bytes that are its name and what stands in it. */
 typedef struct HuxFile {

@@ -10,8 +10,8 @@ use Rattle.huxarte_c.specs.Playing.{IsPlayOutcome, IsSpansRefusal, IsUnplayed, I
 use Rattle.huxarte_c_components.proofs.LinkLaws.{part_refused, stop_is}
 use Rattle.huxarte_c_components.specs.Linking.{AreLinked, spaces_read}
 use Rattle.huxarte_c_components.specs.declared.linking.LinkRefusal.TheVariants as link
-use Rattle.huxarte_c_parts.specs.declared.spans.HuxSpan.{HuxSpan}
-use Rattle.huxarte_c_parts.specs.Spans.{AreWithin, parts_of}
+use Rattle.huxarte_c_calls.specs.declared.spans.HuxSpan.{HuxSpan}
+use Rattle.huxarte_c_calls.specs.Spans.{AreWithin, parts_of}
 
 linked : (files : List (List ℕ)) (rs : List Reading) (set : List Spaces)
     → AreRead files rs → AllByRecursion IsSound rs → set ≡ spaces_read rs → CanBeLinked set → AreLinked files

@@ -8,11 +8,11 @@ use Rattle.huxarte_c.specs.declared.playing.PlayRefusal.TheVariants as refusal
 use Rattle.huxarte_c_components.specs.Linking.{AreLinked, IsLinkRefusal, IsPartsRefusal, IsUnlinked}
 use Rattle.huxarte_c_components.specs.Linking.{of_link}
 use Rattle.huxarte_c_components.specs.declared.linking.LinkRefusal.TheVariants as link
-use Rattle.huxarte_c_parts.specs.declared.kinds.HuxKind.TheVariants as kind
-use Rattle.huxarte_c_parts.specs.declared.spans.HuxSpan.{HuxSpan}
-use Rattle.huxarte_c_parts.specs.declared.verdicts.HuxVerdict.{HuxVerdict}
-use Rattle.huxarte_c_parts.specs.Spans.{AreWithin, parts_of}
-use Rattle.huxarte_c_parts.specs.Verdicts.{of_kind, verdict_by}
+use Rattle.huxarte_c_calls.specs.declared.kinds.HuxKind.TheVariants as kind
+use Rattle.huxarte_c_calls.specs.declared.spans.HuxSpan.{HuxSpan}
+use Rattle.huxarte_c_calls.specs.declared.verdicts.HuxVerdict.{HuxVerdict}
+use Rattle.huxarte_c_calls.specs.Spans.{AreWithin, parts_of}
+use Rattle.huxarte_c_calls.specs.Verdicts.{of_kind, verdict_by}
 
 -- why a play is not done, in numbers
 abbrev pub of_play : PlayRefusal → HuxVerdict

@@ -3,9 +3,8 @@
 ghost use Rattle.huxarte_c_components.specs.Calling.{IsCopyVerdict, IsRequestsVerdict};
 ghost use Rattle.huxarte_c_components.specs.Calling.{receiver_of};
 
-use huxarte_c_calls::{Giver, HuxCall, HuxHandle, HuxRequest, Receiver, Taker};
+use huxarte_c_calls::{Giver, HuxCall, HuxHandle, HuxRequest, HuxVerdict, Receiver, Taker};
 use huxarte_c_components::{ask, copy};
-use huxarte_c_parts::HuxVerdict;
 use std::alloc::Global;
 
 /// Tells what passing the parameters of a call asks the callee's allocator for, in order, before

@@ -5,11 +5,10 @@ ghost use Rattle.huxarte_c_components.specs.Linking.{IsLinkVerdict};
 ghost use Rattle.huxarte_c_components.specs.Showing.{IsShownVerdict};
 ghost use Rattle.huxarte_c_components.specs.Laying.{IsLayoutVerdict};
 ghost use Rattle.huxarte_c_components.specs.Sound.{IsFileVerdict};
-ghost use Rattle.huxarte_c_parts.specs.Texts.{IsText};
+ghost use Rattle.huxarte_c_calls.specs.Texts.{IsText};
 
+use huxarte_c_calls::{HuxNode, HuxSpan, HuxVerdict};
 use huxarte_c_components::{check, conform, lay, link_files, show};
-use huxarte_c_nodes::HuxNode;
-use huxarte_c_parts::{HuxSpan, HuxVerdict};
 use std::alloc::Global;
 
 /// Checks the bytes of a component file, which may have shims: whether they are a valid component

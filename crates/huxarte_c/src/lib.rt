@@ -1,4 +1,4 @@
-//! What C calls: functions over bytes, numbers and plain structs (include/huxarte.h).
+//! The functions that C calls, over bytes, numbers and plain structs (include/huxarte.h).
 #![tactic(auto)]
 
 mod calls;

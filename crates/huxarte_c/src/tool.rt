@@ -1,10 +1,10 @@
 //! `component_tool` in process, over files that are handed over.
 
-ghost use Rattle.huxarte_c_parts.specs.Texts.{IsText};
+ghost use Rattle.huxarte_c_calls.specs.Texts.{IsText};
 
 use cm_tool::tool;
+use huxarte_c_calls::{CommandFault, HuxEnd, HuxSpan, Printed};
 use huxarte_c_components::{Command, HuxFile};
-use huxarte_c_parts::{CommandFault, HuxEnd, HuxSpan, Printed};
 use std::alloc::Global;
 
 /// Runs the command, and answers its exit status.

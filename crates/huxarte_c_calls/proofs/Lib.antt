@@ -1,3 +1,5 @@
 mod CopyLaws
 mod HandleLaws
 mod RequestLaws
+mod TextLaws
+mod NodeLaws

@@ -21,7 +21,7 @@ use Rattle.huxarte_c_calls.specs.declared.fault.CallFault.TheVariants as fault
 use Rattle.huxarte_c_calls.specs.declared.handles.HuxHandle.{HuxHandle}
 use Rattle.huxarte_c_calls.specs.Asking.{IsPassed, IsValueRefusal, requests_of}
 use Rattle.huxarte_c_calls.specs.HandedOver.{IsTableFault, handles_of}
-use Rattle.huxarte_c_parts.specs.Texts.{written}
+use Rattle.huxarte_c_calls.specs.Texts.{written}
 
 -- ---- answers
 

@@ -3,9 +3,9 @@ use Rattle.cm_abi_model.specs.Faults.{abi_fault_number}
 use Rattle.cm_handles.specs.Faults.{handle_fault_number}
 use Rattle.huxarte_c_calls.specs.declared.fault.CallFault.{CallFault}
 use Rattle.huxarte_c_calls.specs.declared.fault.CallFault.TheVariants as fault
-use Rattle.huxarte_c_parts.specs.declared.kinds.HuxKind.TheVariants as kind
-use Rattle.huxarte_c_parts.specs.declared.verdicts.HuxVerdict.{HuxVerdict}
-use Rattle.huxarte_c_parts.specs.Verdicts.{at_item, of_kind}
+use Rattle.huxarte_c_calls.specs.declared.kinds.HuxKind.TheVariants as kind
+use Rattle.huxarte_c_calls.specs.declared.verdicts.HuxVerdict.{HuxVerdict}
+use Rattle.huxarte_c_calls.specs.Verdicts.{at_item, of_kind}
 
 -- what is wrong with a call
 abbrev pub of_call : CallFault → HuxVerdict

@@ -1,5 +1,12 @@
 pub mod Asking
 pub mod Calls
 pub mod Copying
+pub mod Ends
 pub mod Faults
 pub mod HandedOver
+pub mod Spans
+pub mod Texts
+pub mod Verdicts
+pub mod Laying
+pub mod Nodes
+pub mod Shapes

@@ -16,9 +16,9 @@ use crate::fault::CallFault;
 use crate::giving::{Scanned, Taker, give};
 use crate::handles::{HuxHandle, table_of};
 use crate::passing::scan_call;
+use crate::texts::write_items;
 use cm_abi::Scan;
 use cm_abi::laws::one_copied_call;
-use huxarte_c_parts::write_items;
 use std::alloc::Global;
 
 /// Where the values of a call come from: the memory of its caller, and the caller's handles, under

@@ -4,9 +4,10 @@ ghost use Rattle.std.specs.Prelude.{◌≡◌};
 ghost use Rattle.huxarte_c_calls.specs.Faults.{of_call};
 ghost use Rattle.huxarte_c_calls.specs.declared.fault.CallFault.TheVariants as call_fault;
 
+use crate::kinds::HuxKind;
+use crate::verdicts::HuxVerdict;
 use cm_abi::AbiFault;
 use cm_handles::HandleFault;
-use huxarte_c_parts::{HuxKind, HuxVerdict};
 use std::alloc::{AllocError, AllocFailed};
 use std::fmt;
 

@@ -15,8 +15,8 @@ use Rattle.huxarte_c_components.specs.Calling.{IsCallIn, IsCallOf, IsNoCallIn, I
 use Rattle.huxarte_c_components.specs.Funcs.{HasFunc, HasNoFunc, HasNone, HasType, IsNoFunc, told_of}
 use Rattle.huxarte_c_components.specs.Laying.{IsNoNode, IsNoNodeIn, IsNoNodeOf, IsNodeIn, IsNodeOf}
 use Rattle.huxarte_c_components.specs.Sound.{StandsFor}
-use Rattle.huxarte_c_nodes.specs.declared.nodes.HuxNode.{HuxNode}
-use Rattle.huxarte_c_nodes.specs.Laying.{node_by}
+use Rattle.huxarte_c_calls.specs.declared.nodes.HuxNode.{HuxNode}
+use Rattle.huxarte_c_calls.specs.Laying.{node_by}
 
 has_func : (bytes : List ℕ) (c : List SectionTree) (i : ℕ) (f : FuncTy) → StandsFor bytes c
     → HasType (spaces_of c) i f → HasFunc bytes i f

@@ -7,8 +7,8 @@ use Rattle.cm_validate_model.specs.Spaces.{Spaces}
 use Rattle.huxarte_c_components.specs.declared.linking.LinkRefusal.{LinkRefusal}
 use Rattle.huxarte_c_components.specs.declared.linking.LinkRefusal.TheVariants as refusal
 use Rattle.huxarte_c_components.specs.Linking.{AreLinked, IsLinkRefusal, IsPartsRefusal, IsUnlinked, spaces_read}
-use Rattle.huxarte_c_parts.specs.declared.spans.HuxSpan.{HuxSpan}
-use Rattle.huxarte_c_parts.specs.Spans.{AreWithin, parts_of}
+use Rattle.huxarte_c_calls.specs.declared.spans.HuxSpan.{HuxSpan}
+use Rattle.huxarte_c_calls.specs.Spans.{AreWithin, parts_of}
 
 pub linked_is : {A E : Type 0} (files : List (List ℕ)) (rs : List Reading) (set : List Spaces) (r : Result A E)
     → AreRead files rs → AllByRecursion IsSound rs → set ≡ spaces_read rs → OnOk r (CanBeLinked set) → OnOk r (AreLinked files)

@@ -9,7 +9,7 @@ use Rattle.cm_tool_show.specs.declared.fault.ShowFault.TheVariants as fault
 use Rattle.cm_tool_show.specs.declared.page.TheConstants.{MAX_SHOWN}
 use Rattle.cm_types.specs.Signatures.{SignatureTy}
 use Rattle.cm_validate_model.specs.Spaces.{spaces_of}
-use Rattle.cm_validate_signature.specs.Exports.{signature_in}
+use Rattle.cm_validate.specs.Exports.{signature_in}
 use Rattle.huxarte_c_components.specs.declared.conforming.FitRefusal.{FitRefusal}
 use Rattle.huxarte_c_components.specs.declared.conforming.FitRefusal.TheVariants as unfit
 use Rattle.huxarte_c_components.specs.declared.showing.ShowRefusal.{ShowRefusal}

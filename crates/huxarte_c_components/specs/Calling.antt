@@ -16,9 +16,9 @@ use Rattle.huxarte_c_components.specs.declared.fault.ComponentFault.{ComponentFa
 use Rattle.huxarte_c_components.specs.declared.fault.ComponentFault.TheVariants as fault
 use Rattle.huxarte_c_components.specs.Faults.{of_component}
 use Rattle.huxarte_c_components.specs.Funcs.{HasFunc, HasNoFunc, HasNone, HasType}
-use Rattle.huxarte_c_parts.specs.declared.verdicts.HuxVerdict.{HuxVerdict}
-use Rattle.huxarte_c_parts.specs.Texts.{written}
-use Rattle.huxarte_c_parts.specs.Verdicts.{fine}
+use Rattle.huxarte_c_calls.specs.declared.verdicts.HuxVerdict.{HuxVerdict}
+use Rattle.huxarte_c_calls.specs.Texts.{written}
+use Rattle.huxarte_c_calls.specs.Verdicts.{fine}
 use Rattle.cm_abi_model.specs.declared.receiver.Receiver.{Receiver}
 
 -- ---- calls

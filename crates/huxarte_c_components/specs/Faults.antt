@@ -14,9 +14,9 @@ use Rattle.cm_validate_model.specs.ReasonWords as validity
 use Rattle.huxarte_c_calls.specs.Faults.{of_call}
 use Rattle.huxarte_c_components.specs.declared.fault.ComponentFault.{ComponentFault}
 use Rattle.huxarte_c_components.specs.declared.fault.ComponentFault.TheVariants as fault
-use Rattle.huxarte_c_parts.specs.declared.kinds.HuxKind.TheVariants as kind
-use Rattle.huxarte_c_parts.specs.declared.verdicts.HuxVerdict.{HuxVerdict}
-use Rattle.huxarte_c_parts.specs.Verdicts.{at_item, of_kind}
+use Rattle.huxarte_c_calls.specs.declared.kinds.HuxKind.TheVariants as kind
+use Rattle.huxarte_c_calls.specs.declared.verdicts.HuxVerdict.{HuxVerdict}
+use Rattle.huxarte_c_calls.specs.Verdicts.{at_item, of_kind}
 
 -- what is wrong with a shim of a file of this number
 abbrev pub of_plain : ℕ → PlainFault → HuxVerdict

@@ -17,10 +17,10 @@ use Rattle.huxarte_c_components.specs.declared.conforming.FitRefusal.TheVariants
 use Rattle.huxarte_c_components.specs.Showing.{signature_of}
 use Rattle.huxarte_c_components.specs.Faults.{of_files}
 use Rattle.huxarte_c_components.specs.Sound.{IsRead}
-use Rattle.huxarte_c_parts.specs.declared.kinds.HuxKind.{HuxKind}
-use Rattle.huxarte_c_parts.specs.declared.kinds.HuxKind.TheVariants as kind
-use Rattle.huxarte_c_parts.specs.declared.verdicts.HuxVerdict.{HuxVerdict}
-use Rattle.huxarte_c_parts.specs.Verdicts.{at_item, of_kind, verdict_by}
+use Rattle.huxarte_c_calls.specs.declared.kinds.HuxKind.{HuxKind}
+use Rattle.huxarte_c_calls.specs.declared.kinds.HuxKind.TheVariants as kind
+use Rattle.huxarte_c_calls.specs.declared.verdicts.HuxVerdict.{HuxVerdict}
+use Rattle.huxarte_c_calls.specs.Verdicts.{at_item, of_kind, verdict_by}
 
 -- ---- in numbers
 

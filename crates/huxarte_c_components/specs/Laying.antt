@@ -8,10 +8,10 @@ use Rattle.huxarte_c_components.specs.declared.fault.ComponentFault.{ComponentFa
 use Rattle.huxarte_c_components.specs.declared.fault.ComponentFault.TheVariants as fault
 use Rattle.huxarte_c_components.specs.Faults.{of_component}
 use Rattle.huxarte_c_components.specs.Funcs.{HasFunc, HasNoFunc, HasNone, HasType}
-use Rattle.huxarte_c_nodes.specs.declared.nodes.HuxNode.{HuxNode}
-use Rattle.huxarte_c_nodes.specs.Laying.{node_by}
-use Rattle.huxarte_c_parts.specs.declared.verdicts.HuxVerdict.{HuxVerdict}
-use Rattle.huxarte_c_parts.specs.Verdicts.{fine}
+use Rattle.huxarte_c_calls.specs.declared.nodes.HuxNode.{HuxNode}
+use Rattle.huxarte_c_calls.specs.Laying.{node_by}
+use Rattle.huxarte_c_calls.specs.declared.verdicts.HuxVerdict.{HuxVerdict}
+use Rattle.huxarte_c_calls.specs.Verdicts.{fine}
 
 -- why there is no layout of the type that a path leads to from a function
 abbrev pub IsNoNode : FuncTy → ℕ → List ℕ → ComponentFault → Type 0

@@ -10,11 +10,11 @@ use Rattle.cm_shims.specs.Files.{AreRead, IsFileFault, IsSound, Reading, compone
 use Rattle.huxarte_c_components.specs.declared.linking.LinkRefusal.{LinkRefusal}
 use Rattle.huxarte_c_components.specs.declared.linking.LinkRefusal.TheVariants as refusal
 use Rattle.huxarte_c_components.specs.Faults.{of_files}
-use Rattle.huxarte_c_parts.specs.declared.kinds.HuxKind.TheVariants as kind
-use Rattle.huxarte_c_parts.specs.declared.spans.HuxSpan.{HuxSpan}
-use Rattle.huxarte_c_parts.specs.declared.verdicts.HuxVerdict.{HuxVerdict}
-use Rattle.huxarte_c_parts.specs.Spans.{AreWithin, parts_of}
-use Rattle.huxarte_c_parts.specs.Verdicts.{at_item, of_kind, verdict_by}
+use Rattle.huxarte_c_calls.specs.declared.kinds.HuxKind.TheVariants as kind
+use Rattle.huxarte_c_calls.specs.declared.spans.HuxSpan.{HuxSpan}
+use Rattle.huxarte_c_calls.specs.declared.verdicts.HuxVerdict.{HuxVerdict}
+use Rattle.huxarte_c_calls.specs.Spans.{AreWithin, parts_of}
+use Rattle.huxarte_c_calls.specs.Verdicts.{at_item, of_kind, verdict_by}
 
 -- what is wrong, in numbers
 abbrev pub of_link : LinkRefusal → HuxVerdict

@@ -2,7 +2,7 @@
 use Rattle.std.specs.Prelude.{◌≡◌, ◌⊎◌, ◌<◌, ⊤, ℕ, List, [], ◌∷◌, length}
 use Rattle.cm_types.specs.Signatures.{SignatureTy}
 use Rattle.cm_validate_model.specs.Spaces.{spaces_of}
-use Rattle.cm_validate_signature.specs.Exports.{signature_in}
+use Rattle.cm_validate.specs.Exports.{signature_in}
 use Rattle.cm_shims.specs.Files.{IsFileFault, Reading, component_in}
 use Rattle.cm_tool_show.specs.Faults.{show_fault_number}
 use Rattle.cm_tool_show.specs.Shown.{shown}
@@ -12,10 +12,10 @@ use Rattle.huxarte_c_components.specs.declared.showing.ShowRefusal.{ShowRefusal}
 use Rattle.huxarte_c_components.specs.declared.showing.ShowRefusal.TheVariants as refusal
 use Rattle.huxarte_c_components.specs.Faults.{of_files}
 use Rattle.huxarte_c_components.specs.Sound.{IsRead}
-use Rattle.huxarte_c_parts.specs.declared.kinds.HuxKind.TheVariants as kind
-use Rattle.huxarte_c_parts.specs.declared.verdicts.HuxVerdict.{HuxVerdict}
-use Rattle.huxarte_c_parts.specs.Texts.{IsText, written}
-use Rattle.huxarte_c_parts.specs.Verdicts.{at_item, fine}
+use Rattle.huxarte_c_calls.specs.declared.kinds.HuxKind.TheVariants as kind
+use Rattle.huxarte_c_calls.specs.declared.verdicts.HuxVerdict.{HuxVerdict}
+use Rattle.huxarte_c_calls.specs.Texts.{IsText, written}
+use Rattle.huxarte_c_calls.specs.Verdicts.{at_item, fine}
 
 -- what is wrong, in numbers
 abbrev pub of_show : ShowRefusal → HuxVerdict

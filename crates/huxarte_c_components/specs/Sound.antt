@@ -4,8 +4,8 @@ use Rattle.cm_binary_model.specs.Trees.{SectionTree}
 use Rattle.cm_shims.specs.Files.{AreRead, IsFileFault, IsSound, Reading, component_in}
 use Rattle.cm_shims.specs.declared.files_fault.FilesFault.{FilesFault}
 use Rattle.huxarte_c_components.specs.Faults.{of_files}
-use Rattle.huxarte_c_parts.specs.declared.verdicts.HuxVerdict.{HuxVerdict}
-use Rattle.huxarte_c_parts.specs.Verdicts.{verdict_by}
+use Rattle.huxarte_c_calls.specs.declared.verdicts.HuxVerdict.{HuxVerdict}
+use Rattle.huxarte_c_calls.specs.Verdicts.{verdict_by}
 
 -- The bytes of a file are read as a plain component, which is valid and has the types that its
 -- shims say.

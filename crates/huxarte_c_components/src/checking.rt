@@ -4,11 +4,11 @@ ghost use Rattle.std.specs.Prelude.{◌≡◌, [], ◌∷◌, IfErr, OnOk};
 ghost use Rattle.cm_shims.specs.Files.{IsFileFault};
 ghost use Rattle.huxarte_c_components.specs.Faults.{of_files, of_plain, of_shims};
 ghost use Rattle.huxarte_c_components.specs.Sound.{IsFileVerdict, IsSoundFile};
-ghost use Rattle.huxarte_c_parts.specs.Texts.{IsText};
+ghost use Rattle.huxarte_c_calls.specs.Texts.{IsText};
 
 use crate::sound::{check_one, read_one};
 use cm_shims::{FilesFault, PlainFault, ShimFault};
-use huxarte_c_parts::{HuxKind, HuxVerdict, write_shown, write_text};
+use huxarte_c_calls::{HuxKind, HuxVerdict, write_shown, write_text};
 use std::alloc::Global;
 
 /// What is wrong with a file of this number that is not read, in numbers.

@@ -1,7 +1,7 @@
 //! Commands that are handed over.
 
 use crate::given::{Given, HuxFile};
-use huxarte_c_parts::{CommandFault, HuxSpan, words_of};
+use huxarte_c_calls::{CommandFault, HuxSpan, words_of};
 use std::alloc::Global;
 
 /// A command: its words, without the program's name, and the files that are there for it.

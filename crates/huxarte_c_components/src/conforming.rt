@@ -3,20 +3,20 @@
 ghost use Rattle.std.specs.Prelude.{◌≡◌, IfErr, IfNone, IfSome, OnOk};
 ghost use Rattle.std.specs.Str.{IsUtf8};
 ghost use Rattle.cm_tool_files.specs.Conforming.{ConformsTo};
-ghost use Rattle.cm_validate_signature.specs.Exports.{signature_in};
+ghost use Rattle.cm_validate.specs.Exports.{signature_in};
 ghost use Rattle.cm_validate_spaces.specs.Checked.{spaces_in};
 ghost use Rattle.huxarte_c_components.specs.Fitting.{Fits, IsFitVerdict, IsUnfitRefusal};
 ghost use Rattle.huxarte_c_components.specs.Fitting.{IsUnfitSignature, of_conform, of_fit};
 ghost use Rattle.huxarte_c_components.specs.Fitting.{of_unfit};
 ghost use Rattle.huxarte_c_components.specs.declared.conforming.FitRefusal.TheVariants as refusal;
-ghost use Rattle.huxarte_c_parts.specs.Texts.{IsText};
+ghost use Rattle.huxarte_c_calls.specs.Texts.{IsText};
 
 use crate::checking::files_verdict;
 use crate::sound::{check_one, read_one};
 use cm_shims::FilesFault;
 use cm_tool_files::{Checked, UnfitReason, conform_component};
 use cm_wit_conforms::{ConformFault, ConformItem, ConformList};
-use huxarte_c_parts::{HuxKind, HuxVerdict, write_shown, write_text};
+use huxarte_c_calls::{HuxKind, HuxVerdict, write_shown, write_text};
 use std::alloc::Global;
 use std::{fmt, str};
 

@@ -5,8 +5,7 @@ ghost use Rattle.huxarte_c_components.specs.Calling.{IsCopyOf, IsCopyVerdict, Is
 
 use crate::calling::call_of;
 use crate::fault::ComponentFault;
-use huxarte_c_calls::{Giver, HuxCall, Taker, copy_params};
-use huxarte_c_parts::HuxVerdict;
+use huxarte_c_calls::{Giver, HuxCall, HuxVerdict, Taker, copy_params};
 use std::alloc::Global;
 
 /// Copies the parameters of the call of a function of the component of a file, and answers how many

@@ -6,8 +6,7 @@ ghost use Rattle.huxarte_c_components.specs.declared.fault.ComponentFault.TheVar
 
 use crate::checking::files_verdict;
 use cm_shims::FilesFault;
-use huxarte_c_calls::CallFault;
-use huxarte_c_parts::{HuxKind, HuxVerdict};
+use huxarte_c_calls::{CallFault, HuxKind, HuxVerdict};
 use std::alloc::AllocError;
 
 /// Why a call about a component is refused.

@@ -1,7 +1,7 @@
 //! Files that are handed over as bytes.
 
 use cm_tool_files::{FileFault, Files};
-use huxarte_c_parts::{HuxSpan, PartsFault, part};
+use huxarte_c_calls::{HuxSpan, PartsFault, part};
 use std::alloc::Global;
 use std::io::ErrorKind;
 

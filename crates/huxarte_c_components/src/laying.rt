@@ -5,15 +5,14 @@ ghost use Rattle.cm_types.specs.Funcs.{func_of};
 ghost use Rattle.cm_validate_spaces.specs.Checked.{spaces_in};
 ghost use Rattle.huxarte_c_components.specs.Laying.{IsLayoutVerdict, IsNoNode, IsNoNodeIn};
 ghost use Rattle.huxarte_c_components.specs.Laying.{IsNoNodeOf, IsNodeIn, IsNodeOf};
-ghost use Rattle.huxarte_c_nodes.specs.Laying.{node_by};
+ghost use Rattle.huxarte_c_calls.specs.Laying.{node_by};
 
 use crate::fault::ComponentFault;
 use crate::func_type::func_type;
 use crate::sound::{check_one, read_one};
 use cm_types::Func;
 use cm_validate_spaces::Checked;
-use huxarte_c_nodes::{HuxNode, node_by};
-use huxarte_c_parts::HuxVerdict;
+use huxarte_c_calls::{HuxNode, HuxVerdict, node_by};
 use std::alloc::Global;
 
 /// The numbers of the type that a path leads to from a function.

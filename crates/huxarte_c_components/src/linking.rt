@@ -7,14 +7,14 @@ ghost use Rattle.cm_shims.specs.Files.{AreRead, reading_of};
 ghost use Rattle.huxarte_c_components.specs.Linking.{AreLinked, IsLinkRefusal, IsLinkVerdict};
 ghost use Rattle.huxarte_c_components.specs.Linking.{IsPartsRefusal, IsUnlinked, of_link};
 ghost use Rattle.huxarte_c_components.specs.declared.linking.LinkRefusal.TheVariants as refusal;
-ghost use Rattle.huxarte_c_parts.specs.Spans.{AreWithin, parts_of};
-ghost use Rattle.huxarte_c_parts.specs.Texts.{IsText};
+ghost use Rattle.huxarte_c_calls.specs.Spans.{AreWithin, parts_of};
+ghost use Rattle.huxarte_c_calls.specs.Texts.{IsText};
 
 use crate::checking::files_verdict;
 use cm_match::{Checked, LinkFault, Linked, link};
 use cm_shims::{FilesFault, Shimmed, check_files, read_files};
 use cm_tool_lines::write_plan;
-use huxarte_c_parts::{HuxKind, HuxSpan, HuxVerdict, PartsFault, parts, write_shown, write_text};
+use huxarte_c_calls::{HuxKind, HuxSpan, HuxVerdict, PartsFault, parts, write_shown, write_text};
 use std::alloc::Global;
 use std::fmt;
 

@@ -6,8 +6,7 @@ ghost use Rattle.huxarte_c_components.specs.Calling.{IsRequestsVerdict};
 
 use crate::calling::call_of;
 use crate::fault::ComponentFault;
-use huxarte_c_calls::{HuxCall, HuxHandle, HuxRequest, asked};
-use huxarte_c_parts::{HuxVerdict, write_items};
+use huxarte_c_calls::{HuxCall, HuxHandle, HuxRequest, HuxVerdict, asked, write_items};
 use std::alloc::Global;
 
 /// What the call of a function of the component of a file asks for.

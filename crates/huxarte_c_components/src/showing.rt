@@ -3,7 +3,7 @@
 ghost use Rattle.std.specs.Prelude.{◌≡◌, IfErr, IfOk};
 ghost use Rattle.std.specs.String.{string_bytes};
 ghost use Rattle.cm_tool_show.specs.Shown.{shown};
-ghost use Rattle.cm_validate_signature.specs.Exports.{signature_in};
+ghost use Rattle.cm_validate.specs.Exports.{signature_in};
 ghost use Rattle.cm_validate_spaces.specs.Checked.{spaces_in};
 ghost use Rattle.huxarte_c_components.specs.Showing.{IsShowRefusal, IsShown, IsShownVerdict};
 ghost use Rattle.huxarte_c_components.specs.Showing.{IsUnshown, of_show};
@@ -14,7 +14,7 @@ use crate::sound::{check_one, read_one};
 use cm_shims::FilesFault;
 use cm_tool_files::{Checked, show_component};
 use cm_tool_show::ShowFault;
-use huxarte_c_parts::{HuxKind, HuxVerdict, write_shown, write_text};
+use huxarte_c_calls::{HuxKind, HuxVerdict, write_shown, write_text};
 use std::alloc::Global;
 use std::fmt;
 

@@ -60,7 +60,7 @@ fn package_of(alloc: Global, text: &str, line: &mut Line) -> Option<Package> {
 }
 
 /// The signature of the world of a full name in the text behind it; its fault is written.
-fn world_of(alloc: Global, words: &[&str], line: &mut Line) -> Option<Signature> {
+pub fn world_of(alloc: Global, words: &[&str], line: &mut Line) -> Option<Signature> {
     let name = word(words, 0);
     let text = read_text(alloc, words_from(words, 1), line);
     let package = package_of(alloc, text.as_str(), line)?;
@@ -79,7 +79,7 @@ fn world_of(alloc: Global, words: &[&str], line: &mut Line) -> Option<Signature>
 }
 
 /// The signature of the component of a source, which is to have a valid one.
-fn signature_of(
+pub fn signature_of(
     alloc: Global,
     files: &NamedFiles,
     source: &str,

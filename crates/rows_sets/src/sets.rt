@@ -6,7 +6,7 @@ use crate::events::{write_event, write_events};
 use crate::links::{link_components, read_item, write_link_fault};
 use crate::seeing::{write_heard, write_seen};
 use cm_binary::Component;
-use cm_machine::{Event, Flat, Guest, Misuse, Move, Player, Set};
+use cm_machine::{Event, Flat, Guest, Misuse, Move, Place, Player, Set};
 use cm_match::Linked;
 use cm_rows::{
     Line, NamedFiles, RowFault, read_core_values, read_text, word, words_from, write_core_values,
@@ -45,9 +45,9 @@ impl Sets {
     }
 
     /// The answer to `target COMPONENT IMPORT ITEM`, `new PAGES..` (of the set linked last), `begin
-    /// INSTANCE`, `step MOVE`, `run MOVE ; ..`, `acting`, `memory INSTANCE`, `is_closed INSTANCE`,
-    /// `drives ROOTS LIMIT SEAT | ..`, `sees ROOT LIMIT SEAT | ..`, `hears ROOT LIMIT SEAT | ..` or
-    /// `flat VALUE..`.
+    /// INSTANCE`, `step MOVE`, `run MOVE ; ..`, `acting`, `work`, `place SERIAL`, `memory
+    /// INSTANCE`, `is_closed INSTANCE`, `drives ROOTS LIMIT SEAT | ..`, `sees ROOT LIMIT SEAT |
+    /// ..`, `hears ROOT LIMIT SEAT | ..` or `flat VALUE..`.
     pub fn answer(&mut self, alloc: Global, words: &[&str], line: &mut Line) {
         match word(words, 0) {
             "target" => self.write_target(alloc, words, line),
@@ -156,6 +156,11 @@ fn answer_of_set(alloc: Global, set: &mut Set, call: &str, words: &[&str], line:
         "sees" => write_seen(alloc, set, words, line),
         "hears" => write_heard(alloc, set, words, line),
         "acting" => line.found(set.acting()),
+        "work" => write_work(line, set),
+        "place" => {
+            let serial = line.number(word(words, 0));
+            write_place(line, set.place(serial));
+        }
         call => answer_of_instance(set, call, line.number(word(words, 0)), line),
     }
 }
@@ -283,4 +288,34 @@ fn write_flat(line: &mut Line, values: &[CoreValue]) {
     };
     line.put("values");
     write_core_values(line, flat.as_slice());
+}
+
+/// Writes where a resource is.
+fn write_place(line: &mut Line, place: Option<Place>) {
+    match place {
+        None => line.put("never issued"),
+        Some(Place::InTable { instance, index }) => {
+            line.put("index ");
+            line.show(index);
+            line.put(" of ");
+            line.show(instance);
+        }
+        Some(Place::Travelling { frame }) => {
+            line.put("travelling in frame ");
+            line.show(frame);
+        }
+        Some(Place::Abandoned) => line.put("abandoned"),
+        Some(Place::Dropped) => line.put("dropped"),
+    }
+}
+
+/// Writes how many records, handles and lends the topmost call keeps.
+fn write_work(line: &mut Line, set: &Set) {
+    let work = set.work();
+    line.show(work.records);
+    line.put(" records, ");
+    line.show(work.handles);
+    line.put(" handles, ");
+    line.show(work.lends);
+    line.put(" lends");
 }

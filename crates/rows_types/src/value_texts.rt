@@ -3,8 +3,7 @@
 use crate::values::read_value;
 use cm_rows::{Line, read_tree, word, words_from};
 use cm_types::{TypeTree, Value};
-use cm_values_parse::{ValueReason, parse};
-use cm_values_text::{PrintFault, print};
+use cm_values::{PrintFault, ValueReason, parse, print};
 use std::alloc::Global;
 
 /// The answer to `print TYPE = VALUE`, a text or a fault; to `parse TYPE = TEXT`, the text of the

@@ -4,7 +4,7 @@ use crate::reading::write_fault;
 use crate::signatures::read_signature;
 use crate::worlds::write_world_fault;
 use cm_rows::{Line, read_text, word, words_from};
-use cm_types_signatures::Signature;
+use cm_types_arena::Signature;
 use cm_wit_conforms::{ConformFault, ConformList, ConformReason, conforms};
 use cm_wit_package::parse;
 use cm_wit_signature::world_signature;

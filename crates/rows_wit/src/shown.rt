@@ -3,7 +3,7 @@
 use crate::signatures::read_signature;
 use cm_rows::Line;
 use cm_tool_show::{ShowFault, show};
-use cm_types_signatures::Signature;
+use cm_types_arena::Signature;
 use std::alloc::Global;
 
 /// Texts of more bytes are shown by their length alone.

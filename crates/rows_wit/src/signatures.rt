@@ -13,8 +13,10 @@ ghost use Rattle.cm_types_arena.specs.Instances.{are_items_there, is_desc_there}
 ghost use Rattle.cm_types_arena.specs.Externs.{are_externs_in, is_extern_there};
 
 use cm_rows::{Arena, Line, Places, read_move, read_name, split_repeat, word, words_from};
-use cm_types_arena::{Extern, ExternDesc, InstanceType, Item, ItemDesc, Move, Placed, Types};
-use cm_types_signatures::{Externs, NumberedExterns, Signature};
+use cm_types_arena::{
+    Extern, ExternDesc, Externs, InstanceType, Item, ItemDesc, Move, NumberedExterns, Placed,
+    Signature, Types,
+};
 use std::alloc::Global;
 use std::rc::Rc;
 

@@ -4,8 +4,8 @@ use Rattle.cm_layout.specs.declared.heads.Head.{Head}
 use Rattle.cm_abi_model.specs.Stores.{poke}
 use Rattle.cm_abi_model.specs.Views.{flat_limit}
 use Rattle.cm_abi_model.specs.Ways.{way_of}
-use Rattle.cm_abi_putting.specs.Copying.{copying_of}
-use Rattle.cm_abi_putting.specs.Known.{CanBeCopied}
+use Rattle.cm_abi_running.specs.Copying.{copying_of}
+use Rattle.cm_abi_running.specs.Known.{CanBeCopied}
 use Rattle.cm_abi_copy.proofs.FlatLemmas.{few_are_flat}
 use Rattle.cm_abi_copy.proofs.calls.copy_call.Goals as goal
 use Rattle.cm_layout.proofs.LayoutLemmas.{seen_head}

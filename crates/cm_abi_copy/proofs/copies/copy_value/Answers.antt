@@ -9,8 +9,8 @@ use Rattle.cm_abi_load.specs.Sized.{IsSized}
 use Rattle.cm_abi_model.specs.Parts.{handle_count, part_count}
 use Rattle.cm_abi_model.specs.Stores.{poke}
 use Rattle.cm_abi_store.specs.Storing.{given_of, stored_by}
-use Rattle.cm_abi_putting.specs.Copying.{copying_of}
-use Rattle.cm_abi_putting.specs.Ready.{IsSound}
+use Rattle.cm_abi_running.specs.Copying.{copying_of}
+use Rattle.cm_abi_running.specs.Ready.{IsSound}
 use Rattle.cm_abi_copy.proofs.copies.copy_value.Goals as goal
 
 sound : (l : LayoutTy) (t : Ty) → l ≡ layout_at t → ((t : Ty) → Laid (size_of t) (shape_of_type t)) → ((t : Ty) → IsSized (shape_of_type t)) → ((t : Ty) → IsMarked (head_of t) (shape_of_type t)) → IsSound l

@@ -17,7 +17,7 @@ use Rattle.cm_abi_model.specs.Scanned.{Scanned}
 use Rattle.cm_abi_model.specs.Stores.{poke}
 use Rattle.cm_abi_model.specs.Views.{View}
 use Rattle.cm_abi_model.specs.Ways.{way_of}
-use Rattle.cm_abi_putting.specs.declared.copier.Copier.{Copier}
+use Rattle.cm_abi_running.specs.declared.copier.Copier.{Copier}
 use Rattle.cm_handles.specs.Handles.{indices_left}
 use Rattle.cm_abi_copy.proofs.CopyLaws.{IsFrom, all_zeros, are_numbers, as_many, few_slots, fits, framed, given_is, gives, none_there, none_told, numbers_are, passed_on, received, received_serves, taken_long}
 use Rattle.cm_abi_copy.proofs.copying.copy_either.Goals as goal

@@ -2,7 +2,7 @@ use Rattle.std.proofs.Common.{◌≡◌, false, true, inl, inr}
 use Rattle.cm_layout.specs.Layouts.{layout_of}
 use Rattle.cm_abi_model.specs.Ways.{way_of}
 use Rattle.cm_layout.specs.Shapes.{layout_of_fields_at}
-use Rattle.cm_abi_copy.proofs.ScanCallCallLemmas.{nothing_given, scans_given, stops_given}
+use Rattle.cm_abi_copy.proofs.ScanCallLemmas.{nothing_given, scans_given, stops_given}
 use Rattle.cm_abi_copy.proofs.scanned.scan_either.Goals as goal
 use Rattle.cm_abi_lift.proofs.PassedLaws.{only_given}
 

@@ -9,7 +9,7 @@ use Rattle.cm_abi_model.specs.Ways.{way_of}
 use Rattle.cm_abi_lift.specs.HandingOver.{hand_over, handed, untouched}
 use Rattle.cm_abi_load.specs.Outcomes.{State, state_of}
 use Rattle.cm_abi_copy.specs.Scans.{giver_of}
-use Rattle.cm_abi_copy.proofs.ScanCallCallLemmas.{read_askable, read_counted, read_leaves, read_lifts, read_wanted, scan_stops, starts_fresh, was_read}
+use Rattle.cm_abi_copy.proofs.ScanCallLemmas.{read_askable, read_counted, read_leaves, read_lifts, read_wanted, scan_stops, starts_fresh, was_read}
 use Rattle.cm_abi_copy.proofs.HandedCounts.{all_handed}
 use Rattle.cm_abi_copy.proofs.scanned.scan_values.Goals as goal
 

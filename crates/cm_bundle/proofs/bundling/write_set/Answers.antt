@@ -2,8 +2,8 @@ use Rattle.std.proofs.Common.{◌≡◌, ◌<◌, List, ℕ, length, map, rules,
 use Rattle.cm_lemmas.proofs.Lists.{map_length}
 use Rattle.cm_match.specs.Linked.{components_in, set_in}
 use Rattle.cm_match_serving.proofs.Judging.{set_length}
-use Rattle.cm_bundle_form.specs.declared.bundle.TheConstants.{MAX_PARTS}
-use Rattle.cm_bundle_form.specs.Trees.{bundle_tree}
+use Rattle.cm_bundle.specs.declared.form.TheConstants.{MAX_PARTS}
+use Rattle.cm_bundle.specs.Trees.{bundle_tree}
 use Rattle.cm_bundle.proofs.Kept.{few_parts}
 use Rattle.cm_bundle.proofs.bundling.write_set.Goals as goal
 

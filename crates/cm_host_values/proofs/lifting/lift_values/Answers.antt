@@ -2,8 +2,8 @@ use Rattle.std.proofs.Common.{subst}
 use Rattle.cm_types.specs.Values.{parts}
 use Rattle.cm_types.specs.ValueTrees.{values_of}
 use Rattle.cm_abi_model.specs.Denotes.{Denotes}
-use Rattle.cm_abi_host_types.specs.HostTypes.{types_in, way_in}
-use Rattle.cm_abi_host_types.specs.Sees.{host_of}
+use Rattle.cm_host_values.specs.HostTypes.{types_in, way_in}
+use Rattle.cm_host_values.specs.Sees.{host_of}
 use Rattle.cm_host_values.proofs.LiftingLaws.{given_by}
 use Rattle.cm_host_values.proofs.lifting.lift_values.Goals as goal
 

@@ -5,7 +5,7 @@ use Rattle.cm_abi_model.specs.declared.encoding.StringEncoding.TheVariants.{Utf8
 use Rattle.cm_abi_model.specs.Receives.{leaves_in}
 use Rattle.cm_abi_model.specs.Requests.{requests, tuple_of}
 use Rattle.cm_abi_model.specs.Ways.{way_of}
-use Rattle.cm_abi_host_types.specs.HostTypes.{types_in}
+use Rattle.cm_host_values.specs.HostTypes.{types_in}
 use Rattle.cm_host_values.specs.Lowering.{DenoteThere}
 use Rattle.cm_host_values.proofs.RequestingLaws.{as_many}
 use Rattle.cm_host_values.proofs.lowering.lower_typed.Goals as goal

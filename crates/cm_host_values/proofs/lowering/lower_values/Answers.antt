@@ -5,7 +5,7 @@ use Rattle.cm_layout.specs.Layouts.{layout_of}
 use Rattle.cm_abi_model.specs.Requests.{tuple_of}
 use Rattle.cm_abi_model.specs.Taken.{MAX_CONTENT}
 use Rattle.cm_abi_requests.specs.Asking.{parts_by}
-use Rattle.cm_abi_host_types.specs.HostTypes.{types_in, way_in}
+use Rattle.cm_host_values.specs.HostTypes.{types_in, way_in}
 use Rattle.cm_host_values.specs.Content.{content_in}
 use Rattle.cm_host_values.proofs.ContentLaws.{content_is}
 use Rattle.cm_host_values.proofs.LoweringLaws.{fault_then, on_ok, passed_on}

@@ -23,7 +23,7 @@ use Rattle.cm_machine_calls.proofs.ReturnLaws.{result_state, result_under}
 use Rattle.cm_machine_calls.proofs.Standing.{lends_below, link_of, not_passing, passes_at, top_call, top_high}
 use Rattle.cm_machine_calls.proofs.exit.lift_result.Goals as goal
 use Rattle.cm_machine_parts.proofs.Tables.{length_handles}
-use Rattle.cm_machine_valid.proofs.LentLeaves.{none_lent}
+use Rattle.cm_machine_laws.proofs.LentLeaves.{none_lent}
 use Rattle.cm_machine_model.proofs.StackLaws.{some_stand}
 
 pub lift_flat_values-requires-clause-link : goal.lift_flat_values-requires-clause-link

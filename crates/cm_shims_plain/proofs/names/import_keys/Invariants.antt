@@ -1,6 +1,6 @@
 use Rattle.std.proofs.Common.{◌≡◌, ◌++◌, drop, map}
 use Rattle.cm_names.specs.Keys.{key_view}
-use Rattle.cm_shims_model.specs.Trees.{shim_section_tree}
+use Rattle.cm_shims_plain.specs.Trees.{shim_section_tree}
 use Rattle.cm_shims_plain.specs.Names.{import_keys}
 use Rattle.cm_shims_plain.proofs.names.import_keys.Given as goal
 

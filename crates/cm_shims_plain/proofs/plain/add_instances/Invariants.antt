@@ -1,5 +1,5 @@
 use Rattle.std.proofs.Common.{◌≡◌, drop, map}
-use Rattle.cm_shims_model.specs.Trees.{shim_tree, wide_instance_tree}
+use Rattle.cm_shims_plain.specs.Trees.{shim_tree, wide_instance_tree}
 use Rattle.cm_shims_plain.specs.Plain.{instance_step, item_fault}
 use Rattle.cm_shims_plain.specs.PlainViews.{instances_of}
 use Rattle.cm_shims_plain.specs.Steps.{each_numbered}

@@ -1,6 +1,6 @@
 use Rattle.std.proofs.Common.{◌≡◌, ◌+◌, length, map}
 use Rattle.std.specs.Vec.Iter.{into_iter_items, into_iter_len}
-use Rattle.cm_shims_model.specs.Trees.{wide_section_tree}
+use Rattle.cm_shims_plain.specs.Trees.{wide_section_tree}
 use Rattle.cm_shims_plain.specs.Plain.{file_fault, section_step, plain}
 use Rattle.cm_shims_plain.specs.PlainViews.{plain_of}
 use Rattle.cm_shims_plain.specs.Steps.{each_numbered}

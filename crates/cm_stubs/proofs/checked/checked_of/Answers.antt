@@ -4,7 +4,7 @@ use Rattle.std.proofs.lemmas.Option.{slice_get_read}
 use Rattle.std.specs.Prelude.{take}
 use Rattle.cm_validate_model.specs.Valid.{IsValid}
 use Rattle.cm_stubs.specs.Sets.{sections_of}
-use Rattle.cm_validate_signature.specs.cm_validate_spaces.Checked.{sections_in}
+use Rattle.cm_validate.specs.cm_validate_spaces.Checked.{sections_in}
 use Rattle.cm_stubs.proofs.CheckedLaws.{all_next}
 use Rattle.cm_stubs.proofs.checked.checked_of.Goals as goal
 use Rattle.cm_lemmas.proofs.Lists.{take_next}

@@ -1,6 +1,6 @@
 use Rattle.std.proofs.Common.{rules}
-use Rattle.cm_validate_signature.specs.cm_validate_spaces.Checked.{spaces_in}
-use Rattle.cm_validate_signature.specs.Exports.{signature_in}
+use Rattle.cm_validate.specs.cm_validate_spaces.Checked.{spaces_in}
+use Rattle.cm_validate.specs.Exports.{signature_in}
 use Rattle.cm_tool_files.proofs.conforming.conform_component.Goals as goal
 
 pub returns-in_err-world-clause-unfit : goal.returns-in_err-world-clause-unfit

@@ -1,5 +1,5 @@
 use Rattle.std.proofs.Common.{ap, rules}
-use Rattle.cm_types_signatures.specs.Listed.{desc_in}
+use Rattle.cm_types_arena.specs.Listed.{desc_in}
 use Rattle.cm_tool_show.proofs.LineLaws.{behind_front, lines_split}
 use Rattle.cm_tool_show.proofs.ShownLaws.{answers, none_shown, stops, then, told}
 use Rattle.cm_tool_show.proofs.items.show_extern.Goals as goal

@@ -1,5 +1,5 @@
 use Rattle.std.proofs.Common.{◌≡◌, ◌+◌, ◌<◌, Err, None, IsErrOf, length, rules, slice_get, subst, sym}
-use Rattle.cm_types_signatures.specs.Listed.{extern_in, externs_listed}
+use Rattle.cm_types_arena.specs.Listed.{extern_in, externs_listed}
 use Rattle.cm_tool_show.specs.Written.{Wrote}
 use Rattle.cm_tool_show.specs.declared.fault.ShowFault.TheVariants as fault
 use Rattle.cm_tool_show.proofs.LineLaws.{before_end, first_lines, one_more, too_long, word_lines}

@@ -1,4 +1,4 @@
-use Rattle.cm_types_signatures.specs.Listed.{externs_listed}
+use Rattle.cm_types_arena.specs.Listed.{externs_listed}
 use Rattle.cm_tool_show.specs.Written.{Wrote}
 use Rattle.cm_tool_show.proofs.LineLaws.{first_lines, word_lines}
 use Rattle.cm_tool_show.proofs.items.show_externs.Given as goal

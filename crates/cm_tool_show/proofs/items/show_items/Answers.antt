@@ -1,5 +1,5 @@
 use Rattle.std.proofs.Common.{◌≡◌, ◌+◌, ◌<◌, None, ap, length, rules, slice_get, subst, sym}
-use Rattle.cm_types_signatures.specs.Listed.{by_of, item_in, items_listed}
+use Rattle.cm_types_arena.specs.Listed.{by_of, item_in, items_listed}
 use Rattle.cm_tool_show.specs.Written.{Wrote}
 use Rattle.cm_tool_show.proofs.LineLaws.{all_lines, before_end, brought_line, brought_shown, first_lines, one_more, stopped}
 use Rattle.cm_tool_show.proofs.ShownLaws.{all_shown, answers, told}

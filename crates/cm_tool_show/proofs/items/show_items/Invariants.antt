@@ -1,4 +1,4 @@
-use Rattle.cm_types_signatures.specs.Listed.{by_of, items_listed}
+use Rattle.cm_types_arena.specs.Listed.{by_of, items_listed}
 use Rattle.cm_tool_show.specs.Written.{Wrote}
 use Rattle.cm_tool_show.proofs.LineLaws.{brought_line, first_lines}
 use Rattle.cm_tool_show.proofs.items.show_items.Given as goal

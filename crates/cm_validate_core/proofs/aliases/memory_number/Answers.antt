@@ -1,7 +1,7 @@
 use Rattle.std.proofs.Common.{◌≡◌, None, sym, ap, ◌∙◌}
 use Rattle.std.specs.Prelude.{is_some}
-use Rattle.cm_validate_names.specs.NameMaps.{entries_of}
-use Rattle.cm_validate_names.specs.NamedValues.{names_in, place_of}
+use Rattle.cm_validate_core.specs.NameMaps.{entries_of}
+use Rattle.cm_validate_core.specs.NamedValues.{names_in, place_of}
 use Rattle.cm_validate_core.proofs.PlaceLaws.{place_last, places_kept}
 use Rattle.cm_validate_core.proofs.aliases.memory_number.Goals as goal
 

@@ -1,7 +1,7 @@
 use Rattle.std.proofs.Common.{map, refl, ap, ◌∙◌}
 use Rattle.std.specs.String.{string_bytes}
 use Rattle.cm_binary_model.specs.Trees.{ArgTree, arg_tree}
-use Rattle.cm_validate_names.specs.NameMaps.{entries_of}
+use Rattle.cm_validate_core.specs.NameMaps.{entries_of}
 use Rattle.cm_validate_model.specs.Rules.{are_distinct_texts}
 use Rattle.cm_validate_core.proofs.PlaceLaws.{has_name, name_more}
 use Rattle.cm_validate_core.proofs.TextLaws.{seen_first}

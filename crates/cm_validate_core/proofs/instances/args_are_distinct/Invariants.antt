@@ -2,7 +2,7 @@ use Rattle.std.proofs.Common.{◌≡◌, map, drop}
 use Rattle.std.specs.String.{string_bytes}
 use Rattle.cm_binary_model.specs.Trees.{arg_tree}
 use Rattle.cm_validate_model.specs.Rules.{are_distinct_texts}
-use Rattle.cm_validate_names.specs.NameMaps.{entries_of}
+use Rattle.cm_validate_core.specs.NameMaps.{entries_of}
 use Rattle.cm_validate_core.proofs.PlaceLaws.{has_name}
 use Rattle.cm_validate_core.proofs.instances.args_are_distinct.Given as goal
 use Rattle.cm_validate_model.proofs.SharedLaws.{rest_is_distinct}

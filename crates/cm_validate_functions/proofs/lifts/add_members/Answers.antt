@@ -1,5 +1,5 @@
 use Rattle.std.proofs.Common.{rules, ◌≡◌, ◌∙◌, ◌<◌, length, map, Some, None, slice_get, ap}
-use Rattle.cm_validate_names.specs.NameMaps.{entries_of}
+use Rattle.cm_validate_core.specs.NameMaps.{entries_of}
 use Rattle.cm_validate_functions.specs.Kept.{lift_def}
 use Rattle.cm_validate_functions.proofs.KeyLaws.{before_end}
 use Rattle.cm_validate_functions.proofs.LiftLaws.{members_next}

@@ -1,7 +1,7 @@
 use Rattle.std.proofs.Common.{◌≡◌, ◌++◌, List, map, take}
 use Rattle.cm_types.specs.Types.{FuncTy, Ty}
 use Rattle.cm_validate_spaces.specs.cm_validate_entries.Entries.{named_member}
-use Rattle.cm_validate_names.specs.NameMaps.{entries_of}
+use Rattle.cm_validate_core.specs.NameMaps.{entries_of}
 use Rattle.cm_validate_functions.specs.Kept.{lift_def}
 use Rattle.cm_validate_functions.specs.Lifts.{lifts_of_members}
 use Rattle.cm_validate_functions.proofs.lifts.add_members.Given as goal

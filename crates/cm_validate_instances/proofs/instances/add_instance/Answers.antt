@@ -1,12 +1,12 @@
 use Rattle.std.proofs.Common.{◌≡◌, ◌++◌, None, map, sym, ap, ◌∙◌, MatchOption, subst}
 use Rattle.std.specs.List.{flat_map}
-use Rattle.cm_validate_names.specs.NameMaps.{entries_of}
+use Rattle.cm_validate_core.specs.NameMaps.{entries_of}
 use Rattle.cm_types_arena.specs.Places.{funcs_of, types_of}
 use Rattle.cm_validate_model.specs.Items.{instance_item}
 use Rattle.cm_validate_model.specs.Reasons.{least}
 use Rattle.cm_validate_model.specs.Rules.{broken}
 use Rattle.cm_validate_model.specs.Spaces.{Spaces}
-use Rattle.cm_validate_instance_types.specs.Sketches.{sketch_named}
+use Rattle.cm_validate_instances.specs.ItemSketches.{sketch_named}
 use Rattle.cm_validate_entries.specs.ComponentSpaces.{AreTypesOf, IsComponentOf}
 use Rattle.cm_validate_instances.specs.Members.{AreMembers, Stand, export_sketches}
 use Rattle.cm_validate_instances.proofs.NameLaws.{all_fine, instance_fault, names_differ}

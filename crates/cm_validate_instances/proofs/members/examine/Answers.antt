@@ -1,6 +1,6 @@
 use Rattle.std.proofs.Common.{map, refl}
 use Rattle.cm_validate_model.specs.Rules.{member_broken}
-use Rattle.cm_validate_instance_types.specs.Sketches.{sketch_named}
+use Rattle.cm_validate_instances.specs.ItemSketches.{sketch_named}
 use Rattle.cm_validate_instances.specs.Members.{export_sketches}
 use Rattle.cm_validate_instances.proofs.NameLaws.{read_all, read_more}
 use Rattle.cm_validate_instances.proofs.members.examine.Goals as goal

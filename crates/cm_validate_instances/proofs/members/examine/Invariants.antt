@@ -4,7 +4,7 @@ use Rattle.cm_types_arena.specs.Places.{funcs_of, types_of}
 use Rattle.cm_validate_model.specs.Reasons.{least, lesser}
 use Rattle.cm_validate_model.specs.Rules.{member_broken}
 use Rattle.cm_validate_model.specs.Spaces.{Spaces}
-use Rattle.cm_validate_instance_types.specs.Sketches.{sketch_named}
+use Rattle.cm_validate_instances.specs.ItemSketches.{sketch_named}
 use Rattle.cm_validate_instances.specs.Members.{Stand, export_sketches}
 use Rattle.cm_validate_instances.proofs.members.examine.Given as goal
 use Rattle.cm_validate_model.proofs.FaultLaws.{rest_fault}

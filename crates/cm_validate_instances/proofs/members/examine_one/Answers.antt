@@ -1,7 +1,7 @@
 use Rattle.std.proofs.Common.{◌++◌, sym, ap, ◌∙◌, map}
 use Rattle.std.proofs.lemmas.List.{append-nil}
 use Rattle.cm_types_arena.specs.Places.{funcs_of, types_of}
-use Rattle.cm_validate_instance_types.specs.Sketches.{sketch_named}
+use Rattle.cm_validate_instances.specs.ItemSketches.{sketch_named}
 use Rattle.cm_validate_instances.proofs.MemberLaws.{broken_sketch, fine_sketch}
 use Rattle.cm_validate_instances.proofs.members.examine_one.Goals as goal
 

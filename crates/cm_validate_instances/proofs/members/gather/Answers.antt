@@ -6,7 +6,7 @@ use Rattle.cm_validate_instances.proofs.GatherLaws.{broken_at, broken_none, fine
 use Rattle.cm_validate_instances.proofs.MemberLaws.{one_named}
 use Rattle.cm_validate_instances.proofs.NameLaws.{here_empty, later_empty, taken_all}
 use Rattle.cm_validate_instances.proofs.TextLaws.{has_key, key_more, seen_again, seen_first}
-use Rattle.cm_validate_names.specs.NameMaps.{entries_of}
+use Rattle.cm_validate_core.specs.NameMaps.{entries_of}
 use Rattle.cm_validate_instances.proofs.members.gather.Goals as goal
 use Rattle.cm_lemmas.proofs.Lists.{all_pushed, one_more_def}
 use Rattle.cm_validate_model.proofs.RulesLaws.{at_first}

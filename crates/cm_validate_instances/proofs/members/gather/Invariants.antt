@@ -5,7 +5,7 @@ use Rattle.cm_validate_model.specs.Rules.{are_distinct_texts, member_broken}
 use Rattle.cm_validate_model.specs.Spaces.{Spaces}
 use Rattle.cm_validate_model.specs.Spaces.{named_member as member_of_export}
 use Rattle.cm_validate_entries.specs.Entries.{is_member_there, named_member}
-use Rattle.cm_validate_names.specs.NameMaps.{entries_of}
+use Rattle.cm_validate_core.specs.NameMaps.{entries_of}
 use Rattle.cm_validate_instances.specs.Members.{Stand}
 use Rattle.cm_validate_instances.proofs.TextLaws.{has_key}
 use Rattle.cm_validate_instances.proofs.members.gather.Given as goal

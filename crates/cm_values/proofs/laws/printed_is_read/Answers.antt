@@ -1,4 +1,4 @@
-use Rattle.cm_values_text.specs.Spelling.{spelling}
+use Rattle.cm_values.specs.Spelling.{spelling}
 use Rattle.cm_values.proofs.SpellValues.{text_back}
 use Rattle.cm_values.proofs.laws.printed_is_read.Goals as goal
 

@@ -1,5 +1,5 @@
 use Rattle.std.proofs.Common.{◌≡◌, ◌∙◌, List, ap, inl, inr, map, refl, subst}
-use Rattle.cm_types_signatures.specs.Signatures.{signature_of}
+use Rattle.cm_types_arena.specs.Signatures.{signature_of}
 use Rattle.cm_wit_conforms.specs.Comparisons.{Entry, entries}
 use Rattle.cm_wit_conforms.specs.Conformance.{AllFit, IsFirstIn}
 use Rattle.cm_wit_conforms.specs.Views.{entry_of}

@@ -1,6 +1,6 @@
 use Rattle.std.proofs.Common.{◌≡◌, ◌++◌, ◌∙◌, Some, None, ap, option_map, slice_get, subst, sym}
 use Rattle.cm_types.specs.Signatures.{NamedExtern}
-use Rattle.cm_types_signatures.specs.Listed.{desc_in, extern_in, externs_listed}
+use Rattle.cm_types_arena.specs.Listed.{desc_in, extern_in, externs_listed}
 use Rattle.cm_wit_conforms.specs.Views.{entries_of, extern_found, other, own}
 use Rattle.cm_wit_conforms.specs.Walks.{IsWalked}
 use Rattle.cm_wit_conforms.proofs.WalkLaws.{on_ok_more}

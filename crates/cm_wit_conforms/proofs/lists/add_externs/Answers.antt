@@ -1,7 +1,7 @@
 use Rattle.std.proofs.Common.{◌≡◌, ◌++◌, ◌≤◌, ◌∙◌, None, ap, append-nil, arith, length, map, subst, sym}
 use Rattle.std.proofs.lemmas.List.{take_all}
-use Rattle.cm_types_signatures.specs.Listed.{externs_listed}
-use Rattle.cm_wit_lookups.specs.Places.{extern_names, place_in}
+use Rattle.cm_types_arena.specs.Listed.{externs_listed}
+use Rattle.cm_wit_conforms.specs.Places.{extern_names, place_in}
 use Rattle.cm_wit_conforms.specs.Comparisons.{entries_from}
 use Rattle.cm_wit_conforms.specs.Views.{other, own}
 use Rattle.cm_wit_conforms.specs.Walks.{IsWalked}

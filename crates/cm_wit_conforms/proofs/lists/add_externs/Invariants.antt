@@ -1,6 +1,6 @@
 use Rattle.std.proofs.Common.{◌++◌, List, take}
 use Rattle.cm_types_arena.specs.declared.types.Types.{Types}
-use Rattle.cm_types_signatures.specs.Listed.{externs_listed}
+use Rattle.cm_types_arena.specs.Listed.{externs_listed}
 use Rattle.cm_wit_conforms.specs.Comparisons.{Entry, entries_from}
 use Rattle.cm_wit_conforms.specs.Views.{other, own}
 use Rattle.cm_wit_conforms.specs.Walks.{AreKept, IsWalked}

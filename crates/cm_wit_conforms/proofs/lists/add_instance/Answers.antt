@@ -1,8 +1,8 @@
 use Rattle.std.proofs.Common.{◌≡◌, ◌∙◌, Some, ap, option_map, rules, subst, sym}
 use Rattle.std.specs.BTreeMap.{get}
 use Rattle.std.specs.Ordering.{nat_cmp}
-use Rattle.cm_wit_lookups.specs.Known.{AreKnown}
-use Rattle.cm_wit_lookups.specs.Places.{item_names}
+use Rattle.cm_wit_conforms.specs.Known.{AreKnown}
+use Rattle.cm_wit_conforms.specs.Places.{item_names}
 use Rattle.cm_wit_conforms.proofs.lists.add_instance.Goals as goal
 
 pub add_items-requires : goal.add_items-requires

@@ -1,6 +1,6 @@
 use Rattle.std.proofs.Common.{◌++◌, ◌∙◌, Some, ap, subst, sym}
-use Rattle.cm_types_signatures.specs.Listed.{desc_in, names_of_desc}
-use Rattle.cm_types_signatures.specs.declared.externs.Desc.TheVariants as is
+use Rattle.cm_types_arena.specs.Listed.{desc_in, names_of_desc}
+use Rattle.cm_types_arena.specs.declared.named_externs.Desc.TheVariants as is
 use Rattle.cm_wit_conforms.specs.Comparisons.{extern_entries}
 use Rattle.cm_wit_conforms.specs.Views.{other, own}
 use Rattle.cm_wit_conforms.specs.Walks.{IsWalked, of_signature}

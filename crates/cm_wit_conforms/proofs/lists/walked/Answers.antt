@@ -1,6 +1,6 @@
 use Rattle.std.proofs.Common.{◌++◌, ◌∙◌, [], ap, subst}
-use Rattle.cm_types_signatures.specs.Listed.{externs_listed}
-use Rattle.cm_types_signatures.specs.Signatures.{exports_in, imports_in}
+use Rattle.cm_types_arena.specs.Listed.{externs_listed}
+use Rattle.cm_types_arena.specs.Signatures.{exports_in, imports_in}
 use Rattle.cm_wit_conforms.specs.Comparisons.{entries_from}
 use Rattle.cm_wit_conforms.specs.Walks.{IsWalked}
 use Rattle.cm_wit_conforms.specs.declared.fault.ConformList.TheVariants as list

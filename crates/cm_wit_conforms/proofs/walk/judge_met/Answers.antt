@@ -1,6 +1,6 @@
 use Rattle.std.proofs.Common.{◌≡◌, ◌++◌, ◌∙◌, List, Some, None, ap, arith, append_assoc, drop, length, subst, take}
 use Rattle.std.proofs.lemmas.List.{take-append-drop}
-use Rattle.cm_types_signatures.specs.Listed.{items_listed}
+use Rattle.cm_types_arena.specs.Listed.{items_listed}
 use Rattle.cm_wit_conforms.specs.Comparisons.{Entry}
 use Rattle.cm_wit_conforms.specs.Views.{entry_of, other, own}
 use Rattle.cm_wit_conforms.specs.Walks.{IsJudged, facing_entries}

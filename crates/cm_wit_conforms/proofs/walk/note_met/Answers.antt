@@ -1,7 +1,7 @@
 use Rattle.std.proofs.Common.{◌≡◌, ◌+◌, ◌≤◌, ◌∙◌, ℕ, List, Some, None, ap, get_or, length, rules, subst, sym}
 use Rattle.std.specs.List.{slice_get}
 use Rattle.std.proofs.lemmas.Option.{slice_get-get_or}
-use Rattle.cm_wit_lookups.specs.Known.{places_in}
+use Rattle.cm_wit_conforms.specs.Known.{places_in}
 use Rattle.cm_wit_conforms.specs.Views.{entry_of, other, own}
 use Rattle.cm_wit_conforms.specs.Walks.{facing_entries}
 use Rattle.cm_wit_conforms.specs.Pairs.{NoteBoth}

@@ -1,6 +1,6 @@
 use Rattle.std.proofs.Common.{◌≡◌, List, length}
 use Rattle.cm_types_arena.specs.declared.types.Types.{Types}
-use Rattle.cm_wit_lookups.specs.Known.{places_in}
+use Rattle.cm_wit_conforms.specs.Known.{places_in}
 use Rattle.cm_wit_conforms.specs.Comparisons.{Entry}
 use Rattle.cm_wit_conforms.specs.Pairs.{HaveBoth}
 use Rattle.cm_wit_conforms.specs.Walks.{facing_entries}

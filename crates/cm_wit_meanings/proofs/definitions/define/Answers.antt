@@ -6,7 +6,7 @@ use Rattle.cm_wit_meanings.specs.Faults.{IsFaultIn}
 use Rattle.cm_wit_meanings.specs.Meanings.{def_meaning}
 use Rattle.cm_wit_meanings.specs.Places.{IsPlaced, meaning_in, scope_in}
 use Rattle.cm_wit_meanings.specs.Scopes.{as_type}
-use Rattle.cm_wit_meanings.proofs.WitDefinitionsAddedLaws.{added, answers_so, meant_so, place_named, stands}
+use Rattle.cm_wit_meanings.proofs.PartsAddedLaws.{added, answers_so, meant_so, place_named, stands}
 use Rattle.cm_wit_meanings.proofs.DefinitionLaws.{record_means, variant_means}
 use Rattle.cm_wit_meanings.proofs.definitions.define.Goals as goal
 

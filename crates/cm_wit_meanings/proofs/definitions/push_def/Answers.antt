@@ -1,4 +1,4 @@
-use Rattle.cm_wit_meanings.proofs.WitDefinitionsAddedLaws.{def_within}
+use Rattle.cm_wit_meanings.proofs.PartsAddedLaws.{def_within}
 use Rattle.cm_wit_meanings.proofs.definitions.push_def.Goals as goal
 
 pub returns-clause-there : goal.returns-clause-there

@@ -4,7 +4,7 @@ use Rattle.cm_types_arena.specs.TypeDefs.{type_at}
 use Rattle.cm_wit_meanings.specs.declared.fault.MeaningFault.TheVariants as fault
 use Rattle.cm_wit_meanings.specs.Added.{is_place}
 use Rattle.cm_wit_meanings.specs.Faults.{IsTypeFault}
-use Rattle.cm_wit_meanings.proofs.WitDefinitionsAddedLaws.{answers_so, meant_so, refused_first, type_added}
+use Rattle.cm_wit_meanings.proofs.PartsAddedLaws.{answers_so, meant_so, refused_first, type_added}
 use Rattle.cm_wit_meanings.proofs.definitions.push_flags.Goals as goal
 use Rattle.cm_lemmas.proofs.Lists.{cloned}
 

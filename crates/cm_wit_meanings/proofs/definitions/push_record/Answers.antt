@@ -1,6 +1,6 @@
 use Rattle.std.proofs.Common.{rules}
 use Rattle.cm_wit_meanings.specs.Meanings.{record_of}
-use Rattle.cm_wit_meanings.proofs.WitDefinitionsAddedLaws.{answers_so, made, refused, type_added}
+use Rattle.cm_wit_meanings.proofs.PartsAddedLaws.{answers_so, made, refused, type_added}
 use Rattle.cm_wit_meanings.proofs.DefinitionLaws.{record_refused}
 use Rattle.cm_wit_meanings.proofs.definitions.push_record.Goals as goal
 

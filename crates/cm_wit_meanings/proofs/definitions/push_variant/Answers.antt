@@ -1,7 +1,7 @@
 use Rattle.std.proofs.Common.{rules}
 use Rattle.cm_wit_meanings.specs.Meanings.{variant_of}
-use Rattle.cm_wit_meanings.proofs.WitDefinitionsAddedLaws.{answers_so, made, refused, type_added}
-use Rattle.cm_wit_meanings.proofs.WitDefinitionsFaultLaws.{made_fault}
+use Rattle.cm_wit_meanings.proofs.PartsAddedLaws.{answers_so, made, refused, type_added}
+use Rattle.cm_wit_meanings.proofs.PartsFaultLaws.{made_fault}
 use Rattle.cm_wit_meanings.proofs.definitions.push_variant.Goals as goal
 
 pub returns-in_err-cases : goal.returns-in_err-cases

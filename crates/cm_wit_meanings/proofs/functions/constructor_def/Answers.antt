@@ -1,5 +1,5 @@
 use Rattle.std.proofs.Common.{Ok, Err, refl, rules, Some}
-use Rattle.cm_wit_meanings.proofs.WitDefinitionsAddedLaws.{answers_so, behind, refused, type_added}
+use Rattle.cm_wit_meanings.proofs.PartsAddedLaws.{answers_so, behind, refused, type_added}
 use Rattle.cm_wit_meanings.proofs.FuncLaws.{constructor_added, constructor_refused, constructor_unmade}
 use Rattle.cm_wit_meanings.proofs.functions.constructor_def.Goals as goal
 

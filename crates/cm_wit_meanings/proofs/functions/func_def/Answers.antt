@@ -4,8 +4,8 @@ use Rattle.cm_wit_reading.specs.declared.signatures.Typed as typed_code
 use Rattle.cm_wit_reading.specs.SignatureViews.{typed_tree}
 use Rattle.cm_wit_meanings.specs.Meanings.{each_meaning, typed_meaning}
 use Rattle.cm_wit_meanings.specs.Places.{scope_in}
-use Rattle.cm_wit_meanings.specs.WitDefinitionsAdded.{AddedFields}
-use Rattle.cm_wit_meanings.proofs.WitDefinitionsAddedLaws.{answers_so, refused}
+use Rattle.cm_wit_meanings.specs.PartsAdded.{AddedFields}
+use Rattle.cm_wit_meanings.proofs.PartsAddedLaws.{answers_so, refused}
 use Rattle.cm_wit_meanings.proofs.FuncLaws.{answer_refused, func_added, params_refused}
 use Rattle.cm_wit_meanings.proofs.functions.func_def.Goals as goal
 use Rattle.cm_wit_meanings.proofs.ScopeLaws.{scope_placed}

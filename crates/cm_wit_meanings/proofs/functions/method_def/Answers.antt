@@ -1,7 +1,7 @@
 use Rattle.std.proofs.Common.{ap, rules}
 use Rattle.std.specs.Option.{option_map}
 use Rattle.cm_wit_meanings.specs.Meanings.{with_self}
-use Rattle.cm_wit_meanings.proofs.WitDefinitionsAddedLaws.{answers_so, behind, meant_so, refused}
+use Rattle.cm_wit_meanings.proofs.PartsAddedLaws.{answers_so, behind, meant_so, refused}
 use Rattle.cm_wit_meanings.proofs.FuncLaws.{method_refused}
 use Rattle.cm_wit_meanings.proofs.functions.method_def.Goals as goal
 

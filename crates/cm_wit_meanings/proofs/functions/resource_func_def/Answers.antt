@@ -3,7 +3,7 @@ use Rattle.cm_wit_reading.specs.Views.{resource_func_tree}
 use Rattle.cm_wit_meanings.specs.Meanings.{resource_func_meaning}
 use Rattle.cm_types_arena.specs.Places.{types_of}
 use Rattle.cm_wit_meanings.specs.Places.{scope_in}
-use Rattle.cm_wit_meanings.proofs.WitDefinitionsAddedLaws.{meant_so}
+use Rattle.cm_wit_meanings.proofs.PartsAddedLaws.{meant_so}
 use Rattle.cm_wit_meanings.proofs.FuncLaws.{constructor_means}
 use Rattle.cm_wit_meanings.proofs.functions.resource_func_def.Goals as goal
 

@@ -4,7 +4,7 @@ use Rattle.cm_types_arena.specs.TypeDefs.{func_def_type}
 use Rattle.cm_types_arena.specs.declared.type_defs.FieldDef.{FieldDef}
 use Rattle.cm_wit_meanings.specs.declared.fault.MeaningFault.TheVariants as fault
 use Rattle.cm_wit_meanings.specs.Faults.{IsFuncFault}
-use Rattle.cm_wit_meanings.proofs.WitDefinitionsAddedLaws.{answers_so, refusal, refused_first, type_added}
+use Rattle.cm_wit_meanings.proofs.PartsAddedLaws.{answers_so, refusal, refused_first, type_added}
 use Rattle.cm_wit_meanings.proofs.FuncLaws.{self_added, self_refused}
 use Rattle.cm_wit_meanings.proofs.functions.with_self.Goals as goal
 

@@ -4,8 +4,8 @@ use Rattle.cm_types_arena.specs.TypeDefs.{case_def_type, type_at}
 use Rattle.std.specs.Option.{option_map}
 use Rattle.cm_wit_meanings.specs.declared.fault.MeaningFault.TheVariants as fault
 use Rattle.cm_wit_meanings.specs.Places.{scope_in}
-use Rattle.cm_wit_meanings.specs.WitDefinitionsAdded.{IsCaseFault, is_case_there}
-use Rattle.cm_wit_meanings.proofs.WitDefinitionsAddedLaws.{added, answers_so, refusal, refused_first}
+use Rattle.cm_wit_meanings.specs.PartsAdded.{IsCaseFault, is_case_there}
+use Rattle.cm_wit_meanings.proofs.PartsAddedLaws.{added, answers_so, refusal, refused_first}
 use Rattle.cm_wit_meanings.proofs.MemberLaws.{case_made, case_refused}
 use Rattle.cm_wit_meanings.proofs.members.push_case.Goals as goal
 

@@ -1,5 +1,5 @@
 use Rattle.std.proofs.Common.{arith, refl, rules}
-use Rattle.cm_wit_meanings.proofs.WitDefinitionsAddedLaws.{answers_so}
+use Rattle.cm_wit_meanings.proofs.PartsAddedLaws.{answers_so}
 use Rattle.cm_wit_meanings.proofs.MemberLaws.{case_lost, case_next, case_stops, cases_added, cases_none, cases_placed}
 use Rattle.cm_wit_meanings.proofs.members.push_cases.Goals as goal
 

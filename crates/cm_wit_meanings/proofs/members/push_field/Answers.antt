@@ -3,8 +3,8 @@ use Rattle.cm_types_arena.specs.Places.{types_of}
 use Rattle.cm_types_arena.specs.TypeDefs.{field_def_type}
 use Rattle.cm_wit_meanings.specs.declared.fault.MeaningFault.TheVariants as fault
 use Rattle.cm_wit_meanings.specs.Places.{scope_in}
-use Rattle.cm_wit_meanings.specs.WitDefinitionsAdded.{IsFieldFault, is_field_there}
-use Rattle.cm_wit_meanings.proofs.WitDefinitionsAddedLaws.{added, answers_so, refusal, refused_first}
+use Rattle.cm_wit_meanings.specs.PartsAdded.{IsFieldFault, is_field_there}
+use Rattle.cm_wit_meanings.proofs.PartsAddedLaws.{added, answers_so, refusal, refused_first}
 use Rattle.cm_wit_meanings.proofs.MemberLaws.{field_of, typed_refused}
 use Rattle.cm_wit_meanings.proofs.members.push_field.Goals as goal
 

@@ -1,5 +1,5 @@
 use Rattle.std.proofs.Common.{arith, refl, rules}
-use Rattle.cm_wit_meanings.proofs.WitDefinitionsAddedLaws.{answers_so}
+use Rattle.cm_wit_meanings.proofs.PartsAddedLaws.{answers_so}
 use Rattle.cm_wit_meanings.proofs.MemberLaws.{field_lost, field_next, field_stops, fields_added, fields_none, fields_placed}
 use Rattle.cm_wit_meanings.proofs.members.push_fields.Goals as goal
 

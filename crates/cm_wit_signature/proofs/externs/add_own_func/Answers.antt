@@ -3,11 +3,11 @@ use Rattle.std.specs.List.{flat_map}
 use Rattle.std.specs.Option.{option_map}
 use Rattle.std.proofs.lemmas.List.{length-map}
 use Rattle.cm_types_arena.specs.Places.{types_of}
-use Rattle.cm_types_signatures.specs.declared.shared.SharedExtern.{SharedExtern}
+use Rattle.cm_types_arena.specs.declared.shared.SharedExtern.{SharedExtern}
 use Rattle.cm_wit_worlds.specs.InterfaceViews.{placed_interface}
-use Rattle.cm_wit_items.specs.ItemFaults.{AreWithin}
-use Rattle.cm_wit_items.specs.Functions.{extern_funcs}
-use Rattle.cm_wit_items.specs.Signatures.{func_at}
+use Rattle.cm_wit_signature.specs.ItemFaults.{AreWithin}
+use Rattle.cm_wit_signature.specs.Functions.{extern_funcs}
+use Rattle.cm_wit_signature.specs.Signatures.{func_at}
 use Rattle.cm_wit_signature.specs.PartViews.{interfaces_in, world_in, scopes_in, own_func_view, extern_made, externs_made, are_made_there, fronts_in}
 use Rattle.cm_wit_signature.proofs.ExternLaws.{adds_func, func_fault, made_more, more_there, more_within}
 use Rattle.cm_wit_signature.proofs.externs.add_own_func.Goals as goal

@@ -2,8 +2,8 @@ use Rattle.std.proofs.Common.{rules, arith, List, get_or, Some, refl, sym, ap, s
 use Rattle.std.specs.List.{flat_map}
 use Rattle.cm_types.specs.Signatures.{NamedExtern}
 use Rattle.cm_types_arena.specs.Places.{types_of}
-use Rattle.cm_wit_items.specs.Functions.{extern_funcs}
-use Rattle.cm_wit_items.specs.ItemFaults.{AreWithin}
+use Rattle.cm_wit_signature.specs.Functions.{extern_funcs}
+use Rattle.cm_wit_signature.specs.ItemFaults.{AreWithin}
 use Rattle.cm_wit_signature.specs.PartViews.{fronts_in}
 use Rattle.cm_wit_signature.proofs.ExternLaws.{listed_of}
 use Rattle.cm_wit_signature.proofs.LoopLaws.{made_own, made_next, made_fault, made_all}

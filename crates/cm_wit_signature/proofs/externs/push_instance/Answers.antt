@@ -1,12 +1,12 @@
 use Rattle.std.proofs.Common.{rules, arith, ◌≡◌, length, sym, ap, subst, ◌∙◌}
-use Rattle.cm_types_signatures.specs.Shared.{shared_items_of}
+use Rattle.cm_types_arena.specs.Shared.{shared_items_of}
 use Rattle.cm_types_arena.specs.Places.{types_of, funcs_of}
 use Rattle.std.proofs.lemmas.Option.{slice_get_within}
 use Rattle.std.proofs.lemmas.List.{length-map}
 use Rattle.cm_wit_worlds.specs.InterfaceViews.{placed_interface}
 use Rattle.cm_wit_meanings.specs.Places.{scope_in}
 use Rattle.cm_wit_meanings.specs.Scopes.{Scope}
-use Rattle.cm_wit_items.specs.Own.{AreOwn}
+use Rattle.cm_wit_signature.specs.Own.{AreOwn}
 use Rattle.cm_wit_signature.specs.PartViews.{files_in, scopes_in}
 use Rattle.cm_wit_signature.proofs.OneLaws.{instance_refused, instance_made, instance_within}
 use Rattle.cm_wit_reading.specs.Views.{file_tree}

@@ -1,7 +1,7 @@
 use Rattle.std.proofs.Common.{rules, map, ap, ◌∙◌, inl}
 use Rattle.cm_wit_worlds.specs.InterfaceViews.{files_of, placed_world}
 use Rattle.cm_wit_tables.specs.DeclaredViews.{instance_view}
-use Rattle.cm_wit_items.specs.Named.{imported}
+use Rattle.cm_wit_signature.specs.Named.{imported}
 use Rattle.cm_wit_signature.proofs.ReachLaws.{reached_instances, typing_fault}
 use Rattle.cm_wit_signature.proofs.reaching.first_fault.Goals as goal
 

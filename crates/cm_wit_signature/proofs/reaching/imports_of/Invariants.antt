@@ -1,4 +1,4 @@
-use Rattle.cm_wit_items.specs.Named.{imported}
+use Rattle.cm_wit_signature.specs.Named.{imported}
 use Rattle.cm_wit_tables.specs.DeclaredViews.{instance_view}
 use Rattle.cm_wit_signature.proofs.reaching.imports_of.Given as goal
 use Rattle.cm_lemmas.proofs.Lists.{Shows}

@@ -1,9 +1,9 @@
 use Rattle.std.proofs.Common.{rules, List, Option, sym, subst, ◌∙◌}
 use Rattle.cm_types_arena.specs.Places.{funcs_of, types_of}
 use Rattle.cm_types.specs.Signatures.{NamedExtern}
-use Rattle.cm_types_signatures.specs.Shared.{shared_externs_of}
-use Rattle.cm_types_signatures.specs.Signatures.{signature_of}
-use Rattle.cm_wit_items.specs.Signatures.{externs_from}
+use Rattle.cm_types_arena.specs.Shared.{shared_externs_of}
+use Rattle.cm_types_arena.specs.Signatures.{signature_of}
+use Rattle.cm_wit_signature.specs.Signatures.{externs_from}
 use Rattle.cm_wit_signature.specs.Adding.{AreExternsFault}
 use Rattle.cm_wit_signature.specs.PartViews.{interfaces_in, world_in, scopes_in}
 use Rattle.cm_wit_signature.proofs.ExternLaws.{imports_fault, exports_fault, made_there, made_stays, signature_made, signature_within}

@@ -1,12 +1,12 @@
 use Rattle.std.proofs.Common.{rules, ◌≡◌, ℕ, List, Option, IfOk, IfErr, Some, length, map}
 use Rattle.cm_names.specs.Listed.{listed}
-use Rattle.cm_types_signatures.specs.Signatures.{signature_of}
+use Rattle.cm_types_arena.specs.Signatures.{signature_of}
 use Rattle.cm_types_arena.specs.Places.{types_of}
 use Rattle.cm_wit_worlds.specs.InterfaceViews.{placed_interface, placed_world}
-use Rattle.cm_wit_items.specs.ItemFaults.{IsFaultWith}
+use Rattle.cm_wit_signature.specs.ItemFaults.{IsFaultWith}
 use Rattle.cm_wit_meanings.specs.Places.{table_in}
 use Rattle.cm_wit_meanings.specs.declared.scope.Meaning.{Meaning}
-use Rattle.cm_wit_items.specs.Functions.{funcs_in}
+use Rattle.cm_wit_signature.specs.Functions.{funcs_in}
 use Rattle.cm_wit_signature.specs.Made.{signature_made}
 use Rattle.cm_wit_signature.proofs.MadeLaws.{four}
 use Rattle.cm_wit_signature.proofs.signing.made.Goals as goal

@@ -5,7 +5,7 @@ use Rattle.cm_wit_reading.specs.Trees.{File}
 use Rattle.cm_wit_worlds.specs.Interfaces.{PlacedInterface, interfaces}
 use Rattle.cm_wit_worlds.specs.InterfaceViews.{files_of, placed_interface, placed_world}
 use Rattle.cm_wit_tables.specs.Worlds.{Instance, instances, declarations}
-use Rattle.cm_wit_items.specs.Named.{HaveTypes, in_order}
+use Rattle.cm_wit_signature.specs.Named.{HaveTypes, in_order}
 use Rattle.cm_wit_signature.specs.Typing.{IsTypingFault}
 use Rattle.cm_wit_signature.specs.PackageFronts.{HavePackages}
 use Rattle.cm_wit_signature.proofs.PackageLaws.{all_have_packages}

@@ -1,12 +1,12 @@
 use Rattle.std.proofs.Common.{length, map, sym, subst}
 use Rattle.std.proofs.lemmas.List.{length-map}
 use Rattle.cm_names.specs.Listed.{listed}
-use Rattle.cm_types_signatures.specs.Signatures.{signature_of}
+use Rattle.cm_types_arena.specs.Signatures.{signature_of}
 use Rattle.cm_types_arena.specs.Places.{types_of}
 use Rattle.cm_wit_tables.specs.DeclaredViews.{declaration_view, instance_view}
 use Rattle.cm_wit_worlds.specs.InterfaceViews.{placed_interface, placed_world}
 use Rattle.cm_wit_meanings.specs.Places.{table_in}
-use Rattle.cm_wit_items.specs.Faults.{IsFaultIn}
+use Rattle.cm_wit_signature.specs.Faults.{IsFaultIn}
 use Rattle.cm_wit_signature.proofs.SignLaws.{table_fault_in, signed, made_fault_in}
 use Rattle.cm_wit_signature.proofs.signing.tabled.Goals as goal
 

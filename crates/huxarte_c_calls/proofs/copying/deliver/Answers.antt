@@ -2,7 +2,7 @@ use Rattle.std.proofs.Common.{◌≡◌, ◌∙◌, ap, length, map, subst, sym}
 use Rattle.cm_abi_model.specs.Answered.{all_requests}
 use Rattle.cm_abi_model.specs.Numbers.{slot_number}
 use Rattle.cm_handles.specs.Handles.{Handles}
-use Rattle.huxarte_c_parts.specs.Texts.{written}
+use Rattle.huxarte_c_calls.specs.Texts.{written}
 use Rattle.huxarte_c_calls.specs.Copying.{AreCopied}
 use Rattle.huxarte_c_calls.proofs.CopyLaws.{put_back, undelivered}
 use Rattle.huxarte_c_calls.proofs.copying.deliver.Goals as goal

@@ -1,5 +1,5 @@
 use Rattle.std.proofs.Common.{◌∙◌, List, Bor, ap, map, ℕ}
-use Rattle.huxarte_c_parts.specs.Spans.{AreWithin}
+use Rattle.huxarte_c_calls.specs.Spans.{AreWithin}
 use Rattle.huxarte_c_components.proofs.LinkLaws.{linked_parts, on_ok, refused_parts}
 use Rattle.huxarte_c_components.proofs.linking.plan_of_parts.Goals as goal
 

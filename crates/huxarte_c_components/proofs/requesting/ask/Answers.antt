@@ -1,5 +1,5 @@
 use Rattle.std.proofs.Common.{◌∙◌, ap, inl, inr, length, refl}
-use Rattle.huxarte_c_parts.specs.Texts.{written}
+use Rattle.huxarte_c_calls.specs.Texts.{written}
 use Rattle.huxarte_c_components.proofs.requesting.ask.Goals as goal
 
 pub returns-in-Ok : goal.returns-in-Ok

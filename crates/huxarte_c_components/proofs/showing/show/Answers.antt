@@ -1,6 +1,6 @@
 use Rattle.std.proofs.Common.{◌∙◌, ap, inl, inr, length}
 use Rattle.std.specs.String.{string_bytes}
-use Rattle.huxarte_c_parts.specs.Texts.{written}
+use Rattle.huxarte_c_calls.specs.Texts.{written}
 use Rattle.huxarte_c_components.proofs.showing.show.Goals as goal
 
 pub returns-in-Ok : goal.returns-in-Ok

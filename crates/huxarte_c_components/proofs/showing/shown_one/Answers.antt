@@ -1,4 +1,4 @@
-use Rattle.cm_validate_signature.specs.Exports.{signature_in}
+use Rattle.cm_validate.specs.Exports.{signature_in}
 use Rattle.cm_validate_spaces.specs.Checked.{spaces_in}
 use Rattle.huxarte_c_components.proofs.SoundLaws.{unshown}
 use Rattle.huxarte_c_components.proofs.showing.shown_one.Goals as goal

@@ -1,6 +1,6 @@
 use Rattle.std.proofs.Common.{◌+◌, refl, length}
 use Rattle.cm_abi_model.specs.Numbers.{number_at}
-use Rattle.cm_abi_putting.specs.Copying.{copying_of, shown_to}
+use Rattle.cm_abi_running.specs.Copying.{copying_of, shown_to}
 use Rattle.cm_abi_copy.proofs.CopyLemmas.{each_counted, elements_sound}
 use Rattle.cm_abi_copy.proofs.place.PlaceStoredSource.elements.Goals as goal
 

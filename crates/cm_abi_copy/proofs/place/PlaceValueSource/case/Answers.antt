@@ -1,6 +1,6 @@
 use Rattle.std.proofs.Common.{◌+◌, refl, length}
 use Rattle.cm_abi_model.specs.Numbers.{number_at}
-use Rattle.cm_abi_putting.specs.Copying.{copying_of, given_for}
+use Rattle.cm_abi_running.specs.Copying.{copying_of, given_for}
 use Rattle.cm_abi_copy.proofs.CopyLemmas.{carried_ready, case_shown_told, cases_lie}
 use Rattle.cm_abi_copy.proofs.place.PlaceValueSource.case.Goals as goal
 

@@ -2,7 +2,7 @@ use Rattle.std.proofs.Common.{◌≡◌, ◌+◌, ◌*◌, ◌-◌, ap, sym, ◌
 use Rattle.cm_layout.specs.Layouts.{layout_of}
 use Rattle.cm_layout.specs.declared.heads.Head.{Head}
 use Rattle.cm_abi_model.specs.Stores.{placed}
-use Rattle.cm_abi_putting.specs.Copying.{copying_of, given_for}
+use Rattle.cm_abi_running.specs.Copying.{copying_of, given_for}
 use Rattle.cm_abi_copy.proofs.BulkLemmas.{row_bulk}
 use Rattle.cm_abi_copy.proofs.place.PlaceValueSource.plain_bytes.Goals as goal
 use Rattle.cm_layout.proofs.LayoutLemmas.{seen_head}

@@ -1,7 +1,7 @@
 use Rattle.std.proofs.Common.{◌+◌, refl}
 use Rattle.cm_types.specs.declared.limits.TheConstants.{MAX_FLAT_PARAMS}
 use Rattle.cm_abi_model.specs.Numbers.{wrapped_at}
-use Rattle.cm_abi_putting.specs.Copying.{copying_of, shown_to}
+use Rattle.cm_abi_running.specs.Copying.{copying_of, shown_to}
 use Rattle.cm_abi_copy.proofs.FlatLemmas.{each_counted, elements_sound}
 use Rattle.cm_abi_copy.proofs.slots.SlotsPassedSource.stored_elements.Goals as goal
 

@@ -1,7 +1,7 @@
 use Rattle.std.proofs.Common.{◌+◌, refl}
 use Rattle.cm_types.specs.declared.limits.TheConstants.{MAX_FLAT_PARAMS}
 use Rattle.cm_abi_model.specs.Numbers.{wrapped_at}
-use Rattle.cm_abi_putting.specs.Copying.{copying_of}
+use Rattle.cm_abi_running.specs.Copying.{copying_of}
 use Rattle.cm_abi_copy.proofs.FlatLemmas.{carried_ready, case_shown_told, cases_lie}
 use Rattle.cm_abi_copy.proofs.slots.SlotsValueSource.case.Goals as goal
 

@@ -1,6 +1,6 @@
 use Rattle.cm_types.specs.Values.{parts}
 use Rattle.cm_types.specs.ValueTrees.{values_of}
-use Rattle.cm_abi_host_types.specs.HostTypes.{types_in}
+use Rattle.cm_host_values.specs.HostTypes.{types_in}
 use Rattle.cm_host.proofs.Moves.{gives_back}
 use Rattle.cm_host.proofs.playing.Playing.give.Goals as goal
 

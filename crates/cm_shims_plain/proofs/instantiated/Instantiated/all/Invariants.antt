@@ -1,5 +1,5 @@
 use Rattle.std.proofs.Common.{◌≡◌, drop, map}
-use Rattle.cm_shims_model.specs.Trees.{shim_section_tree}
+use Rattle.cm_shims_plain.specs.Trees.{shim_section_tree}
 use Rattle.cm_shims_plain.specs.Instantiated.{shim_step}
 use Rattle.cm_shims_plain.specs.Steps.{each}
 use Rattle.cm_shims_plain.specs.Views.{given_of, instantiated_of}

@@ -1,4 +1,4 @@
-use Rattle.cm_types_numbers.proofs.PlacedNumbersKnownLaws.{funcs_more}
+use Rattle.cm_types_numbers.proofs.KnownPlacedLaws.{funcs_more}
 use Rattle.cm_types_numbers.proofs.funcs.KnownFuncs.note.Goals as goal
 
 pub returns : goal.returns

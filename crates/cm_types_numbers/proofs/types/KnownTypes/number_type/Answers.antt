@@ -3,10 +3,10 @@ use Rattle.std.specs.BTreeMap.{BTreeMap, get}
 use Rattle.cm_types_arena.specs.Places.{types_of}
 use Rattle.cm_types_numbers.specs.Numbering.{numbering}
 use Rattle.cm_types_numbers.specs.declared.known.Known.{Known}
-use Rattle.cm_types_numbers.specs.PlacedNumbersTables.{KnowsTypes, moves_order}
+use Rattle.cm_types_numbers.specs.PlacedTables.{KnowsTypes, moves_order}
 use Rattle.cm_types_numbers.specs.declared.moves.Moves.{Moves}
-use Rattle.cm_types_numbers.proofs.PlacedNumbersKnownLaws.{tables_more, tables_same}
-use Rattle.cm_types_numbers.proofs.PlacedNumbersStays.{types_stay}
+use Rattle.cm_types_numbers.proofs.KnownPlacedLaws.{tables_more, tables_same}
+use Rattle.cm_types_numbers.proofs.PlacedStays.{types_stay}
 use Rattle.cm_types_numbers.proofs.types.KnownTypes.number_type.Goals as goal
 
 pub number_type-requires : goal.number_type-requires

@@ -1,6 +1,6 @@
 use Rattle.std.proofs.Common.{◌∙◌, ap}
 use Rattle.std.specs.Option.{option_map}
-use Rattle.cm_validate_names.specs.NameMaps.{entries_of}
+use Rattle.cm_validate_core.specs.NameMaps.{entries_of}
 use Rattle.cm_validate_core.specs.Entries.{def_of}
 use Rattle.cm_validate_core.proofs.NameLaws.{named_law, numbered_law}
 use Rattle.cm_validate_core.proofs.entries.CoreItem.named.Goals as goal

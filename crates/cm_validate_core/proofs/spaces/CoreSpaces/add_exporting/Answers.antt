@@ -6,7 +6,7 @@ use Rattle.cm_validate_model.specs.declared.fault.ValidReason.TheVariants as rea
 use Rattle.cm_validate_model.specs.Definitions.{exporting}
 use Rattle.cm_validate_model.specs.Reasons.{least, unless}
 use Rattle.cm_validate_model.specs.Spaces.{named_core_def}
-use Rattle.cm_validate_names.specs.NameMaps.{entries_of}
+use Rattle.cm_validate_core.specs.NameMaps.{entries_of}
 use Rattle.cm_validate_core.specs.CoreSpaces.{AreItemsNumbered, memory_names_of}
 use Rattle.cm_validate_core.specs.Entries.{named_def}
 use Rattle.cm_validate_core.proofs.InstanceLaws.{export_missing, exports_there}

@@ -6,7 +6,7 @@ use Rattle.cm_binary_model.specs.Trees.{CoreExportTree, core_export_tree}
 use Rattle.cm_validate_model.specs.Rules.{are_distinct_texts}
 use Rattle.cm_validate_model.specs.Spaces.{core_def_at, named_core_def}
 use Rattle.cm_validate_core.specs.CoreSpaces.{IsItemNumbered, memory_names_of}
-use Rattle.cm_validate_names.specs.NameMaps.{entries_of}
+use Rattle.cm_validate_core.specs.NameMaps.{entries_of}
 use Rattle.cm_validate_core.specs.Entries.{def_of, named_def}
 use Rattle.cm_validate_core.specs.Instances.{is_export_there}
 use Rattle.cm_validate_core.proofs.InstanceLaws.{export_there, no_more, one_def, passes_here}

@@ -8,7 +8,7 @@ use Rattle.cm_validate_model.specs.Spaces.{Spaces, named_core_def}
 use Rattle.cm_validate_core.specs.CoreSpaces.{AreItemsNumbered, IsCoreOf, memory_names_of}
 use Rattle.cm_validate_core.specs.Entries.{named_def}
 use Rattle.cm_validate_core.specs.Instances.{is_export_there}
-use Rattle.cm_validate_names.specs.NameMaps.{entries_of}
+use Rattle.cm_validate_core.specs.NameMaps.{entries_of}
 use Rattle.cm_validate_core.proofs.PlaceLaws.{has_name}
 use Rattle.cm_validate_core.proofs.spaces.CoreSpaces.named_items.Given as goal
 use Rattle.cm_validate_model.proofs.SharedLaws.{rest_is_distinct}

@@ -1,7 +1,7 @@
 use Rattle.std.proofs.Common.{◌≡◌, Some, None, true, sym, ap, ◌∙◌, IfSome, map, subst}
 use Rattle.std.specs.List.{list_all}
 use Rattle.std.specs.Option.{option_map}
-use Rattle.cm_validate_names.specs.NameMaps.{entries_of}
+use Rattle.cm_validate_core.specs.NameMaps.{entries_of}
 use Rattle.cm_types_arena.specs.Instances.{are_items_there}
 use Rattle.cm_validate_model.specs.Spaces.{member_named}
 use Rattle.cm_validate_items.specs.InstanceTypes.{instance_type_of}

@@ -1,7 +1,7 @@
 use Rattle.std.proofs.Common.{◌≡◌, ◌++◌, sym, ap, ◌∙◌}
 use Rattle.cm_validate_model.specs.Reasons.{least}
 use Rattle.cm_validate_model.specs.Rules.{func_name_broken}
-use Rattle.cm_validate_names.specs.NameSets.{known_broken}
+use Rattle.cm_validate_core.specs.NameSets.{known_broken}
 use Rattle.cm_validate_entries.proofs.ExportLaws.{func_added_answer, func_name_answer, no_func_answer}
 use Rattle.cm_validate_entries.proofs.spaces.ComponentSpaces.export_func.Goals as goal
 

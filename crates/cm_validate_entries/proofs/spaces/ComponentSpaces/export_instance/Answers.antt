@@ -2,7 +2,7 @@ use Rattle.std.proofs.Common.{◌≡◌, ◌++◌, sym, ap, ◌∙◌}
 use Rattle.std.specs.Option.{option_map}
 use Rattle.cm_validate_model.specs.Reasons.{least}
 use Rattle.cm_validate_model.specs.Rules.{instance_name_broken}
-use Rattle.cm_validate_names.specs.NameSets.{known_broken}
+use Rattle.cm_validate_core.specs.NameSets.{known_broken}
 use Rattle.cm_validate_entries.proofs.ExportLaws.{instance_added_answer, instance_name_answer, no_instance_answer}
 use Rattle.cm_validate_entries.proofs.spaces.ComponentSpaces.export_instance.Goals as goal
 

@@ -1,7 +1,7 @@
 use Rattle.std.proofs.Common.{◌≡◌, ◌++◌, None, sym, ap, ◌∙◌, subst}
 use Rattle.cm_validate_model.specs.Reasons.{least}
 use Rattle.cm_validate_model.specs.Rules.{func_name_broken}
-use Rattle.cm_validate_names.specs.NameSets.{known_broken}
+use Rattle.cm_validate_core.specs.NameSets.{known_broken}
 use Rattle.cm_validate_entries.specs.Steps.{PushesFunc}
 use Rattle.cm_validate_entries.specs.declared.entries.FuncEntry.TheVariants as func
 use Rattle.cm_validate_entries.proofs.AnswerLaws.{func_added_answer, func_name_answer, func_type_answer}

@@ -1,7 +1,7 @@
 use Rattle.std.proofs.Common.{◌≡◌, ◌++◌, sym, ap, ◌∙◌}
 use Rattle.cm_validate_model.specs.Reasons.{least}
 use Rattle.cm_validate_model.specs.Rules.{instance_name_broken}
-use Rattle.cm_validate_names.specs.NameSets.{known_broken}
+use Rattle.cm_validate_core.specs.NameSets.{known_broken}
 use Rattle.cm_validate_entries.proofs.AnswerLaws.{instance_added_answer, instance_name_answer, instance_type_answer}
 use Rattle.cm_validate_entries.proofs.spaces.ComponentSpaces.import_instance.Goals as goal
 

@@ -1,6 +1,6 @@
 use Rattle.std.proofs.Common.{ap, ◌∙◌, map, length}
 use Rattle.std.specs.List.{list_all}
-use Rattle.cm_validate_names.specs.NameMaps.{entries_of}
+use Rattle.cm_validate_core.specs.NameMaps.{entries_of}
 use Rattle.cm_validate_entries.specs.Entries.{is_member_there, named_member}
 use Rattle.cm_validate_entries.specs.declared.entries.InstanceEntry.TheVariants as instance
 use Rattle.cm_validate_entries.proofs.StayLaws.{members_pushed}

@@ -1,4 +1,4 @@
-use Rattle.cm_wit_lookups.specs.Places.{item_names}
+use Rattle.cm_wit_conforms.specs.Places.{item_names}
 use Rattle.cm_wit_conforms.proofs.KeptLaws.{kept_more}
 use Rattle.cm_wit_conforms.proofs.kept.Kept.keep.Goals as goal
 

@@ -1,6 +1,6 @@
 use Rattle.std.proofs.Common.{subst}
-use Rattle.cm_wit_lookups.specs.Known.{AreKnown}
-use Rattle.cm_wit_lookups.specs.Places.{item_names}
+use Rattle.cm_wit_conforms.specs.Known.{AreKnown}
+use Rattle.cm_wit_conforms.specs.Places.{item_names}
 use Rattle.cm_wit_conforms.specs.Walks.{of_signature}
 use Rattle.cm_wit_conforms.proofs.walk.Walk.add_items.Goals as goal
 

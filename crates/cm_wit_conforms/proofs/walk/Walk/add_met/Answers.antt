@@ -1,6 +1,6 @@
 use Rattle.std.proofs.Common.{◌≡◌, ◌+◌, ◌++◌, length, arith, rules}
 use Rattle.std.proofs.lemmas.List.{length-append}
-use Rattle.cm_types_signatures.specs.Listed.{items_listed}
+use Rattle.cm_types_arena.specs.Listed.{items_listed}
 use Rattle.cm_wit_conforms.specs.Views.{other, own}
 use Rattle.cm_wit_conforms.specs.Walks.{facing_entries}
 use Rattle.cm_wit_conforms.proofs.PlacedLaws.{entries_long}

@@ -1,6 +1,6 @@
 use Rattle.std.proofs.Common.{◌≡◌, Some, None, arith, length}
-use Rattle.cm_types_signatures.specs.Listed.{items_listed}
-use Rattle.cm_wit_lookups.specs.Places.{item_names, place_in}
+use Rattle.cm_types_arena.specs.Listed.{items_listed}
+use Rattle.cm_wit_conforms.specs.Places.{item_names, place_in}
 use Rattle.cm_wit_conforms.specs.Views.{entry_of, other, own}
 use Rattle.cm_wit_conforms.specs.Walks.{IsWalked, facing_entries}
 use Rattle.cm_wit_conforms.proofs.PlacedLaws.{entries_long, placed_found}

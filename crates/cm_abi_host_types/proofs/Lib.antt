@@ -1,5 +1,0 @@
-pub mod IndexedLemmas
-pub mod IndexedLaws
-pub mod SeesLaws
-pub mod LeafLaws
-pub mod TypedRows

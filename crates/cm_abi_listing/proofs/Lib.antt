@@ -1,6 +1,0 @@
-mod FormLemmas
-mod ShapeLemmas
-mod MakingLemmas
-mod HoldingLemmas
-mod PutMakingLemmas
-mod SlotMakingLemmas

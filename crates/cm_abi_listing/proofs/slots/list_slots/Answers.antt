@@ -1,9 +1,0 @@
-use Rattle.std.proofs.Common.{ap}
-use Rattle.cm_abi_programs.specs.SlotPuts.{one_slot}
-use Rattle.cm_abi_programs.specs.CodedSlots.{slots_in}
-use Rattle.cm_abi_programs.proofs.SlotForms.{seen_List}
-use Rattle.cm_abi_listing.proofs.ShapeLemmas.{becomes}
-use Rattle.cm_abi_listing.proofs.slots.list_slots.Goals as goal
-
-pub returns : goal.returns
-returns c = becomes slots_in c.one_slot.result _ _ (ap one_slot (seen_List 0 c.args.size c.args.puts)) c.one_slot.ensures

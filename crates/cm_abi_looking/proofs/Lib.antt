@@ -1,8 +1,0 @@
-mod LookingLemmas
-mod RoomLemmas
-mod LookLemmas
-mod TextRowLemmas
-mod AsciiLemmas
-mod WithinLemmas
-mod FlatLookingLemmas
-mod PassedLemmas

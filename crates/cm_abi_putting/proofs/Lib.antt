@@ -1,3 +1,0 @@
-pub mod LeafLemmas
-pub mod PuttingLemmas
-pub mod PuttingFlatLemmas

@@ -1,9 +1,0 @@
-pub mod Shown
-pub mod Copying
-pub mod Ready
-pub mod Known
-pub mod PutsWithin
-pub mod PutsReady
-pub mod PutsWritten
-pub mod SlotPutsReady
-pub mod SlotsPassed

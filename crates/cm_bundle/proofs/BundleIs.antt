@@ -1,0 +1,64 @@
+-- Bytes that the grammar takes as a bundle are its spelling, and it is a bundle.
+use Rattle.std.proofs.Common.{◌≡◌, ℕ, zero, suc, ◌+◌, ◌<◌, ◌^◌, List, [], ◌∷◌, ◌++◌, length, Ok, sym, ap, subst, ◌∙◌, arith, inl, inr}
+use Rattle.std.proofs.lemmas.List.{append-nil, length-append}
+use Rattle.cm_bundle.specs.declared.form.TheConstants.{BUNDLE_PREAMBLE, MAX_PARTS}
+use Rattle.cm_bundle.specs.declared.codes.Next.{Next}
+use Rattle.cm_bundle.specs.declared.codes.Next.TheVariants as next
+use Rattle.cm_bundle.specs.Trees.{BundleTree}
+use Rattle.cm_bundle.specs.Spelled.{Spaces, no_spaces, exports_of, all_counted, part_spelled, body_spelled, spelled, after_part, AreSupplied, IsBundle}
+use Rattle.cm_bundle.specs.Grammar.{next_of, behind, body, bundle}
+use Rattle.cm_bundle.specs.declared.fault.BundleReason.TheVariants as reasons
+use Rattle.cm_bundle.proofs.EitherCode.{either_code}
+use Rattle.cm_bundle.proofs.SpellingIs.{two, last, part_is, exports_are}
+
+-- What a body is known to be.
+pub record IsBody (s : Spaces) (b : BundleTree) (room : ℕ) (bytes : List ℕ) : Type 0 where
+  pub spelled : bytes ≡ body_spelled s b.parts b.exports
+  pub supplied : AreSupplied (length s.places) b.parts b.exports
+  pub few : length b.parts < room
+
+part_begins : (b : ℕ) → next_of b ≡ Ok next.Part → b ≡ 0x04
+part_begins b h =
+    elim (either_code b 0x04 0x06 next.Part next.Exports next.Part reasons.UnknownCode h) [ inl p ↦ p.0 | inr p ↦ let q = p.1 in absurd cc ]
+
+exports_begin : (b : ℕ) → next_of b ≡ Ok next.Exports → b ≡ 0x06
+exports_begin b h =
+    elim (either_code b 0x04 0x06 next.Part next.Exports next.Exports reasons.UnknownCode h) [ inl p ↦ let q = p.1 in absurd cc | inr p ↦ p.0 ]
+
+-- What stands behind the id of a section, and the id.
+behind_is : (room : ℕ) → ((t : Spaces) (b : BundleTree) (bytes : List ℕ) → (body room t).Spells b bytes → IsBody t b room bytes) → (s : Spaces) (b : BundleTree) (n : Next) (id : ℕ) (rest : List ℕ) → next_of id ≡ Ok n → (behind s (body room) n).Spells b rest → IsBody s b (suc room) (id ∷ rest)
+behind_is room below s b next.Exports id rest i h =
+    let all = exports_are s h.0 h.1 h.3 in
+    let bytes : rest ≡ h.1 = h.5 ∙ ap (λ (r : List ℕ). h.1 ++ r) h.4.1 ∙ append-nil h.1 in
+    rw h.4.0 (record {
+      spelled = ap (λ (c : ℕ). c ∷ rest) (exports_begin id i) ∙ ap (λ (r : List ℕ). 0x06 ∷ r) bytes ∙ all.0;
+      supplied = all.1;
+      few = omega arith;
+    })
+behind_is room below s b next.Part id rest i h =
+    let more = h.4 in
+    let one = part_is s h.0 h.1 h.3 in
+    let all = below (after_part s h.0) more.0 more.1 more.3 in
+    let behind_part : h.2 ≡ body_spelled (after_part s h.0) more.0.parts more.0.exports = last h.2 more.1 more.2 (body_spelled (after_part s h.0) more.0.parts more.0.exports) more.5 all.spelled more.4.1 in
+    let begins : id ∷ rest ≡ (0x04 ∷ h.1) ++ h.2 = ap (λ (c : ℕ). c ∷ rest) (part_begins id i) ∙ ap (λ (r : List ℕ). 0x04 ∷ r) h.5 in
+    let places : length (after_part s h.0).places ≡ length s.places + 1 = length-append s.places ((all_counted s.counts (exports_of h.0.arguments)).instances ∷ []) in
+    rw more.4.0 (record {
+      spelled = two (id ∷ rest) (0x04 ∷ h.1) h.2 (part_spelled s h.0) (body_spelled (after_part s h.0) more.0.parts more.0.exports) begins one.0 behind_part;
+      supplied = (one.1, subst (λ (n : ℕ). AreSupplied n more.0.parts more.0.exports) places all.supplied);
+      few = omega (arith, all.few);
+    })
+
+pub body_is : (room : ℕ) (s : Spaces) (b : BundleTree) (bytes : List ℕ) → (body room s).Spells b bytes → IsBody s b room bytes
+unfolding body
+body_is zero s b bytes h = absurd h
+body_is (suc room) s b bytes h =
+    let all = behind_is room (body_is room) s b h.0 h.3.0 h.2 h.3.2 h.4 in
+    let same : bytes ≡ h.3.0 ∷ h.2 = h.5 ∙ ap (λ (f : List ℕ). f ++ h.2) h.3.1 in
+    subst (λ (t : List ℕ). IsBody s b (suc room) t) (sym same) all
+
+pub bundle_is : (b : BundleTree) (bytes : List ℕ) → length bytes < 2 ^ 32 → bundle.Spells b bytes → IsBundle b × (bytes ≡ spelled b)
+unfolding bundle spelled
+bundle_is b bytes lt h =
+    let all = body_is (MAX_PARTS + 1) no_spaces b h.2 h.4 in
+    let whole = two bytes h.1 h.2 BUNDLE_PREAMBLE (body_spelled no_spaces b.parts b.exports) h.5 h.3 all.spelled in
+    (record { few = omega (arith, all.few); supplied = all.supplied; short = subst (λ (t : List ℕ). length t < 2 ^ 32) whole lt }, whole)

@@ -1,0 +1,43 @@
+use Rattle.std.proofs.Common.{◌∙◌, ◌<◌, List, length, map, slice_get, arith, subst, sym, ap}
+use Rattle.std.specs.List.{filter_map}
+use Rattle.cm_lemmas.proofs.Lists.{map_length}
+use Rattle.cm_match.specs.Linked.{components_in, set_in}
+use Rattle.cm_match_serving.proofs.Judging.{set_length}
+use Rattle.cm_bundle.specs.declared.form.Part.{Part}
+use Rattle.cm_bundle.specs.Trees.{part_tree}
+use Rattle.cm_bundle.specs.Bundled.{argument_of}
+use Rattle.cm_bundle.proofs.Lines.{other_lines, own_fit, own_lines}
+use Rattle.cm_bundle.proofs.MakingLoops.{got_read, part_texts, parts_pushed}
+use Rattle.cm_bundle.proofs.SetRead.{space_there}
+use Rattle.cm_bundle.proofs.Supplying.{AreTexts}
+use Rattle.cm_bundle.proofs.bundled.parts_of.Goals as goal
+
+pub split_at-requires : goal.split_at-requires
+split_at-requires c =
+    let cs = components_in c.args.linked.now in
+    let n = c.loop-component.component in
+    let x = c.index-components-component.result in
+    let inside : n < length c.components-components.result.now = omega (arith, c.loop-component-test.true, c.requires, set_length cs, ap length c.components-components.ensures.components) in
+    let there = ap (λ (ys : List _). slice_get ys n) (sym c.components-components.ensures.components) ∙ got_read c.components-components.result.now n x inside c.index-components-component.is in
+    let count = sym (ap length c.imports.ensures.are ∙ map_length _ c.imports.result.now) in
+    own_fit (set_in c.args.linked.now) c.components-components.ensures.linked n _ (space_there cs n x there) (length c.imports.result.now) count c.loop-component.lines.now c.loop-component.invariant.2
+
+pub loop-component-preserved : goal.loop-component-preserved
+loop-component-preserved c =
+    let cs = components_in c.args.linked.now in
+    let set = set_in c.args.linked.now in
+    let n = c.loop-component.component in
+    let x = c.index-components-component.result in
+    let k = length c.imports.result.now in
+    let lines = c.loop-component.lines.now in
+    let inside : n < length c.components-components.result.now = omega (arith, c.loop-component-test.true, c.requires, set_length cs, ap length c.components-components.ensures.components) in
+    let there = ap (λ (ys : List _). slice_get ys n) (sym c.components-components.ensures.components) ∙ got_read c.components-components.result.now n x inside c.index-components-component.is in
+    let count = sym (ap length c.imports.ensures.are ∙ map_length _ c.imports.result.now) in
+    let space = space_there cs n x there in
+    let own = own_lines set c.components-components.ensures.linked n _ space k count lines c.loop-component.invariant.2 in
+    let others = other_lines set c.components-components.ensures.linked n _ space k count lines c.loop-component.invariant.2 in
+    let given = c.in_ok-arguments.ensures.arguments ∙ ap (filter_map (argument_of set)) (c.split_at.ensures.front ∙ own) in (
+      parts_pushed set c.args.files.now n _ c.loop-component.parts.items c.push.new.self.items c.in_ok-arguments.arguments c.loop-component-test.true c.in_ok-push.ensures.items c.loop-component.invariant.0 given,
+      subst (λ (ps : List Part). AreTexts (map part_tree ps)) (sym c.in_ok-push.ensures.items) (part_texts c.loop-component.parts.items _ c.loop-component.invariant.1 c.in_ok-arguments.ensures.texts),
+      c.split_at.ensures.back ∙ others,
+    )

@@ -1,0 +1,43 @@
+-- Bundles as trees, without where they lie in memory. Files, names and texts are their bytes.
+use Rattle.std.specs.Prelude.{ℕ, List, map}
+use Rattle.cm_bundle.specs.declared.form.Sort.{Sort}
+use Rattle.cm_bundle.specs.declared.form.PartExport.{PartExport}
+use Rattle.cm_bundle.specs.declared.form.Supply.{Supply}
+use Rattle.cm_bundle.specs.declared.form.Part.{Part}
+use Rattle.cm_bundle.specs.declared.form.Bundle.{Bundle}
+
+-- An export of a part: the part, counted from 0, what it is, and its name.
+pub record ExportTree : Type 0 where
+  pub part : ℕ
+  pub sort : Sort
+  pub name : List ℕ
+
+-- An export of a part, passed on under a name.
+pub record SupplyTree : Type 0 where
+  pub name : List ℕ
+  pub export : ExportTree
+
+-- A component file, and what its imports are given, in their order.
+pub record PartTree : Type 0 where
+  pub file : List ℕ
+  pub arguments : List SupplyTree
+
+-- The parts, and what the bundle exports.
+pub record BundleTree : Type 0 where
+  pub parts : List PartTree
+  pub exports : List SupplyTree
+
+abbrev pub export_tree : PartExport → ExportTree
+export_tree x = record { part = x.part; sort = x.sort; name = x.name.now }
+
+abbrev pub supply_tree : Supply → SupplyTree
+supply_tree x = record { name = x.name.now; export = export_tree x.export }
+
+abbrev pub part_tree : Part → PartTree
+part_tree p = record { file = p.file.now; arguments = map supply_tree p.arguments.items }
+
+abbrev pub bundle_tree : Bundle → BundleTree
+bundle_tree b = record {
+  parts = map part_tree b.parts.items;
+  exports = map supply_tree b.exports.items;
+}

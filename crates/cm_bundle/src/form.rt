@@ -1,0 +1,47 @@
+//! The form of bundles.
+
+/// The first eight bytes of a component (Binary.md, "Component Definitions").
+pub const BUNDLE_PREAMBLE: [u8; 8] = [0x00, 0x61, 0x73, 0x6d, 0x0d, 0x00, 0x01, 0x00];
+
+/// The most parts of a bundle, a limit of this project's own.
+pub const MAX_PARTS: usize = 1_000;
+
+/// A set of components as one.
+#[derive(Drop)]
+pub struct Bundle<'a> {
+    pub parts: Vec<Part<'a>>,
+    /// What the bundle exports.
+    pub exports: Vec<Supply<'a>>,
+}
+
+/// A component of a bundle.
+#[derive(Drop)]
+pub struct Part<'a> {
+    /// The bytes of its file.
+    pub file: &'a [u8],
+    /// What each of its imports is given, in their order.
+    pub arguments: Vec<Supply<'a>>,
+}
+
+/// An export of a part, passed on under a name: to an import of this name, or out of the bundle.
+#[derive(Clone, Copy)]
+pub struct Supply<'a> {
+    pub name: &'a str,
+    pub export: PartExport<'a>,
+}
+
+/// An export of a part.
+#[derive(Clone, Copy)]
+pub struct PartExport<'a> {
+    /// The part, counted from 0.
+    pub part: usize,
+    pub sort: Sort,
+    pub name: &'a str,
+}
+
+/// What is passed on (Binary.md, `sort`).
+#[derive(Clone, Copy, Debug, PartialEq, Eq)]
+pub enum Sort {
+    Func,
+    Instance,
+}

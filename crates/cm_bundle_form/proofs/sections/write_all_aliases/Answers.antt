@@ -1,6 +1,0 @@
-use Rattle.cm_bundle_form.proofs.Earlier.{earlier_here}
-use Rattle.cm_bundle_form.proofs.Items.{no_supply}
-use Rattle.cm_bundle_form.proofs.sections.write_all_aliases.Goals as goal
-
-pub write_alias-requires : goal.write_alias-requires
-write_alias-requires c = earlier_here _ c.args.supplies.now c.loop-supply.supply-index no_supply c.loop-supply-test.true c.requires

@@ -1,4 +1,0 @@
-mod StepMatches
-mod StepAnswers
-mod Along
-mod Going

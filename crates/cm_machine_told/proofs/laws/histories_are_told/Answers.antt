@@ -1,5 +1,0 @@
-use Rattle.cm_machine_told.proofs.Along.{told_along}
-use Rattle.cm_machine_told.proofs.laws.histories_are_told.Goals as goal
-
-pub returns : goal.returns
-returns c = told_along c.frames_are_told.ensures.told c.histories_are_valid.ensures

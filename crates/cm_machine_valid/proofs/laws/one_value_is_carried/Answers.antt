@@ -1,5 +1,0 @@
-use Rattle.cm_machine_valid.proofs.OneCarried.{one_carried}
-use Rattle.cm_machine_valid.proofs.laws.one_value_is_carried.Goals as goal
-
-pub returns : goal.returns
-returns c = one_carried c.one_value_is_on_its_way.ensures

@@ -1,5 +1,0 @@
-use Rattle.cm_machine_valid.proofs.Takes.{there_denoted}
-use Rattle.cm_machine_valid.proofs.laws.what_is_met_is_the_values_handles.Goals as goal
-
-pub returns : goal.returns
-returns c = there_denoted

@@ -1,0 +1,4 @@
+//! How far a drive goes.
+
+/// The most moves of a drive.
+pub const LIMIT: u64 = 1_000_000;

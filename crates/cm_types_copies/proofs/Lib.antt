@@ -1,3 +1,0 @@
-pub mod DefLaws
-pub mod CopyLaws
-pub mod OnceLaws

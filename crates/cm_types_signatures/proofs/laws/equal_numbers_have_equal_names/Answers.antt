@@ -1,5 +1,0 @@
-use Rattle.cm_types_signatures.proofs.NumberLaws.{equal_names}
-use Rattle.cm_types_signatures.proofs.laws.equal_numbers_have_equal_names.Goals as goal
-
-pub returns : goal.returns
-returns c = equal_names

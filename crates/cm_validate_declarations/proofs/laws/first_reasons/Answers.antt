@@ -1,8 +1,0 @@
-use Rattle.cm_validate_declarations.proofs.BrokenLaws.{none_first, some_first}
-use Rattle.cm_validate_declarations.proofs.laws.first_reasons.Goals as goal
-
-pub returns-clause-none : goal.returns-clause-none
-returns-clause-none c = none_first
-
-pub returns-clause-some : goal.returns-clause-some
-returns-clause-some c = some_first

@@ -1,4 +1,0 @@
-pub mod DeclaredItems
-pub mod DeclaredScopes
-pub mod FirstFaults
-pub mod CountedAround

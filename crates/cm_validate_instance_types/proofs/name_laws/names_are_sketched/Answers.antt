@@ -1,8 +1,0 @@
-use Rattle.cm_validate_instance_types.proofs.FaultLaws.{names_before, names_told}
-use Rattle.cm_validate_instance_types.proofs.name_laws.names_are_sketched.Goals as goal
-
-pub returns-clause-least : goal.returns-clause-least
-returns-clause-least c = names_told c.least_of_both.ensures
-
-pub returns-clause-before : goal.returns-clause-before
-returns-clause-before c = names_before

@@ -1,6 +1,0 @@
-use Rattle.std.proofs.Common.{◌≡◌, map, take}
-use Rattle.cm_validate_signature.specs.Items.{moved_item}
-use Rattle.cm_validate_signature.proofs.items.moved_items.Given as goal
-
-abbrev pub invariant-loop-item : goal.invariant-loop-item
-invariant-loop-item l = l.moved.items ≡ map (moved_item l.by) (take l.item-index l.items)

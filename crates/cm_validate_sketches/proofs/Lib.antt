@@ -1,3 +1,0 @@
-pub mod SketchLaws
-pub mod FaultLaws
-pub mod MoveLaws

@@ -1,4 +1,0 @@
-pub mod Sketches
-pub mod Levels
-pub mod Definitions
-pub mod Faults

@@ -1,5 +1,0 @@
-use Rattle.cm_values_parse.proofs.WholeLaws.{read_as_spelled}
-use Rattle.cm_values_parse.proofs.laws.spellings_are_read.Goals as goal
-
-pub returns : goal.returns
-returns c = λ t text v. read_as_spelled t text v

@@ -1,3 +1,0 @@
-pub mod ListLaws
-pub mod BitLaws
-pub mod CaseLaws

@@ -1,9 +1,0 @@
-use Rattle.cm_names.specs.Keys.{key_view}
-use Rattle.cm_names.specs.Listed.{listed}
-use Rattle.cm_wit_lookups.specs.Numbers.{version_of}
-use Rattle.cm_wit_lookups.specs.Views.{front_view}
-use Rattle.cm_wit_lookups.proofs.MapLaws.{Rests}
-use Rattle.cm_wit_lookups.proofs.fronts.version_keys.Given as goal
-
-abbrev pub invariant-loop-front : goal.invariant-loop-front
-invariant-loop-front l = Rests (λ f. version_of (listed l.firsts) (listed l.seconds) (front_view f)) key_view l.fronts l.front-index l.keys.items

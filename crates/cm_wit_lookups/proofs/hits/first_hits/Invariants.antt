@@ -1,5 +1,0 @@
-use Rattle.cm_wit_lookups.proofs.HitLaws.{Seeks}
-use Rattle.cm_wit_lookups.proofs.hits.first_hits.Given as goal
-
-abbrev pub invariant-loop-at : goal.invariant-loop-at
-invariant-loop-at l = Seeks l.found l.at l.hits

@@ -1,5 +1,0 @@
-use Rattle.cm_wit_lookups.proofs.HitLaws.{Finds}
-use Rattle.cm_wit_lookups.proofs.hits.places_found.Given as goal
-
-abbrev pub invariant-loop-each : goal.invariant-loop-each
-invariant-loop-each l = Finds l.found l.each-index l.places.items

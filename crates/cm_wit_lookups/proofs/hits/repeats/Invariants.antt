@@ -1,5 +1,0 @@
-use Rattle.cm_wit_lookups.proofs.HitLaws.{Repeats}
-use Rattle.cm_wit_lookups.proofs.hits.repeats.Given as goal
-
-abbrev pub invariant-loop-place : goal.invariant-loop-place
-invariant-loop-place l = Repeats l.firsts l.place l.repeats.items

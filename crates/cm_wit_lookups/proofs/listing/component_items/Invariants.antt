@@ -1,6 +1,0 @@
-use Rattle.std.proofs.Common.{map, take}
-use Rattle.cm_wit_lookups.specs.Listings.{AreNames}
-use Rattle.cm_wit_lookups.proofs.listing.component_items.Given as goal
-
-abbrev pub invariant-loop-item : goal.invariant-loop-item
-invariant-loop-item l = AreNames l.list (map (λ i. i.name) (take l.item-index l.items))

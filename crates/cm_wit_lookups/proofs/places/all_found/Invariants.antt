@@ -1,7 +1,0 @@
-use Rattle.cm_names.specs.Listed.{listed}
-use Rattle.cm_wit_lookups.specs.Places.{found_by}
-use Rattle.cm_wit_lookups.proofs.MapLaws.{Maps}
-use Rattle.cm_wit_lookups.proofs.places.all_found.Given as goal
-
-abbrev pub invariant-loop-name : goal.invariant-loop-name
-invariant-loop-name l = Maps (found_by l.numbers (listed l.keys)) l.names l.name-index l.places.items

@@ -1,5 +1,0 @@
-use Rattle.cm_wit_tables.proofs.TableLaws.{one_table}
-use Rattle.cm_wit_tables.proofs.wit_declared_laws.one_table.Goals as goal
-
-pub returns : goal.returns
-returns c = one_table

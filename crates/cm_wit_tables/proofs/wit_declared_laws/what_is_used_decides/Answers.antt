@@ -1,5 +1,0 @@
-use Rattle.cm_wit_tables.proofs.TableLaws.{uses_decide}
-use Rattle.cm_wit_tables.proofs.wit_declared_laws.what_is_used_decides.Goals as goal
-
-pub returns : goal.returns
-returns c = uses_decide

@@ -1,3 +1,0 @@
-pub mod Laying
-pub mod Nodes
-pub mod Shapes

@@ -1,3 +1,0 @@
-pub mod Spans
-pub mod Texts
-pub mod Verdicts

@@ -1,0 +1,35 @@
+// Asks `hux`.
+import { execFile } from 'node:child_process';
+import { Signatures } from './types.mjs';
+
+const MOST = 1e9; // bytes of what a command prints
+
+// What ends a command: its status, and what is said of it, which may have been said already.
+export class Refused extends Error {
+    constructor(status, text) {
+        super(text);
+        this.status = status;
+    }
+}
+
+// Runs `hux` to its end, and answers its output.
+export function ask(hux, ...words) {
+    return new Promise((answer, refuse) => {
+        execFile(hux, words, { encoding: 'utf8', maxBuffer: MOST }, (error, output, errors) => {
+            if (!error) answer(output);
+            else if (typeof error.code !== 'number')
+                refuse(new Refused(4, `error: ${hux}: ${error.message}`));
+            else refuse(new Refused(error.code, errors.trimEnd()));
+        });
+    });
+}
+
+async function rows(...words) {
+    return (await ask(...words)).trimEnd().split('\n').map((line) => JSON.parse(line));
+}
+
+// The types of a component's functions.
+export async function signaturesOf(hux, file) {
+    const asked = ['show', 'core'].map((command) => rows(hux, command, '--json', file));
+    return new Signatures(...await Promise.all(asked));
+}
