@@ -261,12 +261,13 @@ fn run_core<'a, F: Files, O: Write>(
 
 /// A line, or an object, for each core function of a file.
 fn core_lines<'a>(alloc: Global, loaded: &Loaded<'a>, habits: Habits) -> Result<String, Fault<'a>> {
+    let signature = signature_of(alloc, loaded)?;
     let checked = loaded.check(alloc)?;
     let functions = Functions::of(alloc, &checked)?;
     let text = if habits.json {
-        core_objects(alloc, &functions)
+        core_objects(alloc, &functions, &signature)
     } else {
-        core_text(alloc, &functions)
+        core_text(alloc, &functions, &signature)
     };
     shown(loaded.name, text)
 }

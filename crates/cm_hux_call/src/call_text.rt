@@ -1,8 +1,9 @@
 //! A call as a word of the command line says it: `NAME(VALUES)`.
 
-use cm_hux_drive::files::{Escaped, Fault};
+use crate::arguments::commas_before;
+use cm_hux_drive::files::{Escaped, Fault, type_text};
 use cm_types::{Func, TypeNode, TypeTree, Value};
-use cm_values::parse;
+use cm_values::{ValueFault, ValueReason, parse};
 use std::alloc::{AllocError, Global};
 use std::rc::Rc;
 
@@ -47,12 +48,25 @@ impl<'a> CallText<'a> {
         match parse(alloc, values.as_bytes(), &tuple) {
             Ok(Value::Fields(args)) => Ok(args),
             Ok(_) => Err(self.refuse(alloc, "no arguments")?),
-            Err(fault) => {
-                let at = self.at.saturating_add(fault.at);
-                let reason = fault.reason;
-                Err(self.refuse(alloc, format!(in alloc; "at {at}: {reason}")?.as_str())?)
-            }
+            Err(fault) if fault.reason == ValueReason::Memory => Err(Fault::Memory),
+            Err(fault) => Err(self.no_values(alloc, func, fault)?),
         }
+    }
+
+    /// The fault of arguments that are no values of the parameters: where, why, and which parameter
+    /// stands there.
+    fn no_values(
+        &self,
+        alloc: Global,
+        func: &Func,
+        fault: ValueFault,
+    ) -> Result<Fault<'a>, AllocError> {
+        let values = self.text.get(self.at..).unwrap_or("");
+        let number = commas_before(values, fault.at);
+        let parameter = parameter_text(alloc, func, number)?;
+        let (at, reason) = (self.at.saturating_add(fault.at), fault.reason);
+        let text = format!(in alloc; "at {at}: {reason}: {parameter}")?;
+        self.refuse(alloc, text.as_str())
     }
 
     /// No arguments, where the parentheses have none in them.
@@ -79,6 +93,18 @@ fn full_name(alloc: Global, name: &str) -> Result<String, AllocError> {
         Some((interface, function)) => format!(in alloc; "{interface}#{function}"),
         None => String::from_str(alloc, name),
     }
+}
+
+/// The parameter of a number, from 0, in words: its number from 1, its name and its type; or how
+/// many there are, where it is none of them.
+fn parameter_text(alloc: Global, func: &Func, number: usize) -> Result<String, AllocError> {
+    let count = func.params.len();
+    let Some(field) = func.params.get(number) else {
+        return format!(in alloc; "the function has parameters up to {count}");
+    };
+    let ty = type_text(alloc, &field.ty)?;
+    let (label, number) = (field.label.as_str(), number.saturating_add(1));
+    format!(in alloc; "parameter {number} of {count} is {label}: {ty}")
 }
 
 /// The tuple of the parameters of a function; none where it is too large.

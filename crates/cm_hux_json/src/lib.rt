@@ -13,8 +13,10 @@ mod met;
 mod names;
 mod numbered;
 mod objects;
+mod other_names;
 mod types;
 
+pub use cm_hux_show::type_text;
 pub use core_funcs::core_objects;
 pub use core_lines::core_text;
 pub use core_rows::{CoreRow, core_row};
