@@ -46,8 +46,9 @@ impl<'t> Numbered<'t> {
             return Ok(());
         }
         let line = made_object(self, used)?.line()?;
-        let number = match self.made.get(&line) {
-            Some(number) => *number,
+        let known = self.made.get(&line).copied();
+        let number = match known {
+            Some(number) => number,
             None => self.add_new(line, used)?,
         };
         self.numbers.insert(used.key(&self.lasts), number)?;
