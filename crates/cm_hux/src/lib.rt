@@ -11,6 +11,7 @@ mod explaining;
 mod objects;
 mod stubbing;
 
+pub use cm_hux_json::{CoreRow, core_row, core_text};
 pub use cm_hux_play::files::{
     Disk, DiskStreams, Ending, Fault, FileFault, Files, Loaded, Streams, ToolFault, load_file,
     report, words_of,

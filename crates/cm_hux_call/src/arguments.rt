@@ -10,7 +10,7 @@ struct Nesting {
     is_escaped: bool,
 }
 
-/// How many commas stand in a text in parentheses before this byte, outside of inner brackets and of
+/// How many commas stand in a text in parentheses before this byte, outside of inner brackets and
 /// quotes: the number of the argument that stands there, from 0.
 pub(crate) fn commas_before(text: &str, end: usize) -> usize {
     let mut nesting = Nesting {
@@ -28,7 +28,7 @@ pub(crate) fn commas_before(text: &str, end: usize) -> usize {
 }
 
 impl Nesting {
-    /// Goes on behind a character, and answers whether it ends an argument that another one follows.
+    /// Goes on behind a character, and answers whether it ends an argument behind which another is.
     fn ends_argument(&mut self, c: char) -> bool {
         if let Some(quote) = self.quote {
             self.go_on_quoted(c, quote);

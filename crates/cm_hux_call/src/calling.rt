@@ -48,15 +48,14 @@ pub fn run_call<'a, F: Files, O: Write, E: Write>(
     let ending = call.play(script, out, err)?;
     if words.script.is_none() && ending == Ending::Trapped {
         // Where that fails, there is nobody left to tell.
-        let _ = writeln!(err, "{STILL}");
+        let _ = writeln!(err, "{}", STILL);
     }
     Ok(ending)
 }
 
 /// What is said where a guest trapped and there was no script.
 const STILL: &str =
-    "without a script each guest stops at once: --script has one play their moves, and \
-    `hux live` real core code";
+    "without a script each guest stops at once: --script S plays moves, `hux live` core code";
 
 /// A call that is to be played: the names of the components, the set, and what is passed.
 #[derive(Drop)]

@@ -13,8 +13,8 @@ use cm_types_arena::{
 use serde_json::Value;
 use std::alloc::{AllocError, Global};
 
-/// A JSON object a line for each type that a signature names and that has no word of its own, each
-/// behind those that it holds, and then for each import and each export, in order.
+/// A JSON object a line for each type that a signature names and that has no word of its own, equal
+/// ones once, each behind those that it holds, and then for each import and each export, in order.
 ///
 /// A type has its number, from 0, as `type`, its word as `kind`, and what it is made of; where it
 /// is used it stands by its number, or by its word, as `"u32"`. An import or export has its name,

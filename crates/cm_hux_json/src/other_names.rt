@@ -70,13 +70,12 @@ impl OtherNames {
         let Some(index) = functions.export(name.as_str()) else {
             return Ok(());
         };
-        match self.names.get_mut(&index) {
-            Some(others) => {
-                others.push(name)?;
-            }
-            None => {
-                self.names.insert(index, Vec::new(self.alloc))?;
-            }
+        if self.names.get(&index).is_none() {
+            self.names.insert(index, Vec::new(self.alloc))?;
+            return Ok(());
+        }
+        if let Some(others) = self.names.get_mut(&index) {
+            others.push(name)?;
         }
         Ok(())
     }
