@@ -53,7 +53,7 @@ class Guest:
     def alias(self, sort, instance, name):
         self.items[sort].append(self.instances[int(instance)][text(name)])
 
-    def lower(self, func, _, params, results):
+    def lower(self, func, _, params, results, *_encoding):
         kinds = [] if results == "-" else results.split(",")
         self.call_of(func, params.split(",") if params != "-" else [], kinds)
 
@@ -64,15 +64,18 @@ class Guest:
         self.items["func"].append(
             lambda *values: self.engine.call(self, func, params, results, values))
 
-    def lift(self, func, name, _, results):
+    def lift(self, func, name, _, results, *_encoding):
         self.lifts[int(func)] = [] if results == "-" else results.split(",")
         self.first = getattr(self, "first", (int(func), text(name)))
 
     def set_memory(self, at):
         self.memory = self.items["memory"][int(at)]
 
-    def pages(self, count):
+    def pages(self, count, *_most):
         self.known = bytes(int(count) * PAGE)
+
+    def skip(self, *_row):
+        """A row of types, which who tells each change of a memory need not know."""
 
 
 class Engine:
@@ -83,13 +86,14 @@ class Engine:
                                         stdin=subprocess.PIPE, stdout=subprocess.PIPE)
         self.guests = []
         while (words := self.read())[0] != "ready":
-            self.plan(files, *words)
+            self.plan(*words)
 
-    def plan(self, files, kind, *words):
+    def plan(self, kind, *words):
+        names = {"memory": "set_memory", "type": "skip", "func": "skip"}
         if kind == "component":
-            self.guests.append(Guest(self, len(self.guests), files[len(self.guests)]))
+            self.guests.append(Guest(self, len(self.guests), text(words[0])))
         else:
-            getattr(self.guests[-1], {"memory": "set_memory"}.get(kind, kind))(*words)
+            getattr(self.guests[-1], names.get(kind, kind))(*words)
 
     def read(self):
         return self.machine.stdout.readline().split() or sys.exit("hux live has ended")

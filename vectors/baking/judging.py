@@ -44,7 +44,7 @@ class Guest:
     def alias(self, sort, instance, name):
         self.items[sort].append(self.instances[int(instance)][name_of(name)])
 
-    def lower(self, number, _name, params, results):
+    def lower(self, number, _name, params, results, *_):
         self.made(number, kinds_of(params), kinds_of(results))
 
     def resource(self, kind, number):
@@ -61,7 +61,7 @@ class Guest:
     def plan(self, kind, *words):
         if kind == "memory":
             self.memory = self.items["memory"][int(words[0])]
-        elif kind != "pages":
+        elif kind not in ("pages", "type", "func"):
             getattr(self, kind)(*words)
 
     # What its core modules do to their memory

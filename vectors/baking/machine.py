@@ -48,7 +48,7 @@ class Machine:
     """A session: a statement goes in; the event, and what adapters wrote before it, come out."""
 
     def __init__(self, files):
-        self.process = subprocess.Popen([program(), "live", *map(str, files)], text=True,
+        self.process = subprocess.Popen([program(), "live", "-q", *map(str, files)], text=True,
                                         stdin=subprocess.PIPE, stdout=subprocess.PIPE)
         self.plan = []
         try:
