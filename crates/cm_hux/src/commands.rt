@@ -134,7 +134,7 @@ fn run_command<'a, F: Files, S: Streams, O: Write, E: Write>(
         Request::Plug(plug) => run_plug(alloc, plug, habits, files, streams, out),
         Request::Play(play) => run_play(alloc, play, habits, files, out, err),
         Request::Call(call) => run_call(alloc, call, habits.json, files, out, err),
-        Request::Live(live) => run_live(alloc, live, files, streams, out, err),
+        Request::Live(live) => run_live(alloc, live, habits, files, streams, out, err),
         Request::Explain { words } => run_explain(alloc, words, habits, out),
         Request::Diff(diff) => run_diff(alloc, diff, habits, files, out),
         Request::Stub(stub) => run_stub(alloc, stub, habits, files, streams, out),

@@ -34,11 +34,11 @@ pub enum Fault<'a> {
     Bundle(Trouble<'a>),
     /// A file cannot be written.
     Unwritten { name: &'a str, kind: io::ErrorKind },
-    /// What `live` reads from or writes to failed, or there was no memory for a line.
-    Streams,
+    /// Standard input cannot be read.
+    Input,
     /// So many moves were made, which are the most that `live` was to make.
     Moves { limit: u64 },
-    /// What a script or a call says is refused, in words.
+    /// What a script, a call or a line says is refused, in words.
     Refused(String),
     /// What `component_tool` says alike.
     Tool(ToolFault<'a>),
@@ -64,7 +64,7 @@ impl Fault<'_> {
             | Fault::Moves { .. }
             | Fault::Refused(_)
             | Fault::Memory => Ending::Refused,
-            Fault::Unwritten { .. } | Fault::Streams | Fault::Output => Ending::Unread,
+            Fault::Unwritten { .. } | Fault::Input | Fault::Output => Ending::Unread,
             Fault::Tool(fault) => ending_of_tool(fault),
         }
     }
@@ -154,9 +154,7 @@ impl fmt::Display for Fault<'_> {
             Fault::Unwritten { name, kind } => {
                 write!(f, "{}: Write: {}", Escaped(name), why_unwritten(*kind))
             }
-            Fault::Streams => f.write_str(
-                "standard input, standard output or the record failed, or no memory for a line",
-            ),
+            Fault::Input => f.write_str("standard input: Read: it cannot be read"),
             Fault::Moves { limit } => write!(f, "limit: {limit} moves were made"),
             Fault::Refused(text) => f.write_str(text.as_str()),
             Fault::Tool(fault) => write!(f, "{fault}"),

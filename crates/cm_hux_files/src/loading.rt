@@ -225,6 +225,15 @@ impl<'a> LoadedFiles<'a> {
         &self.loaded
     }
 
+    /// The bundle whose files they are, by its name and its bytes; none where they are files of
+    /// their own.
+    pub fn bundle(&self) -> Option<(&'a str, &[u8])> {
+        match &self.bundle {
+            Some((name, bytes)) => Some((name, bytes.as_slice())),
+            None => None,
+        }
+    }
+
     /// The bytes of the files, in order.
     pub fn bytes(&self, alloc: Global) -> Result<Vec<&[u8]>, AllocError> {
         let mut bytes = Vec::with_capacity(alloc, self.loaded.len())?;
