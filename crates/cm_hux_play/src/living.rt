@@ -6,7 +6,7 @@ use crate::mirrored::Mirrored;
 use crate::named::{component_names, file_names};
 use crate::planned::write_plan;
 use cm_hux_drive::files::{
-    Ending, Fault, Files, Linked, LoadedFiles, Streams, ToolFault, create, load_files,
+    Ending, Fault, Files, Linked, LoadedFiles, Streams, ToolFault, create, load_files, unwritten,
 };
 use cm_hux_drive::lines::SetSize;
 use cm_hux_drive::make_set;
@@ -199,7 +199,7 @@ fn fault_of<'n, R: BufRead + Drop>(
         return Ok(Fault::Output);
     }
     match record {
-        Some(name) if error.kind() != io::ErrorKind::OutOfMemory => Ok(Fault::Unwritten { name }),
+        Some(name) if error.kind() != io::ErrorKind::OutOfMemory => Ok(unwritten(name, error)),
         _ => Ok(Fault::Memory),
     }
 }
