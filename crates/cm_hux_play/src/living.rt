@@ -94,14 +94,14 @@ impl<'l, 'b, 'a> Live<'l, 'b, 'a> {
         out: &mut O,
         err: &mut E,
     ) -> Result<Ending, Fault<'a>> {
-        let mirrored = self.mirrored(words.values, &pages)?;
+        let names = component_names(self.alloc, self.loaded)?;
+        let files = file_names(self.alloc, self.loaded)?;
         write_plan(self.alloc, self.loaded, self.linked, out)?;
+        let mirrored = self.mirrored(words.values, &pages)?;
         let mut record = record(self.alloc, words.record, pages, streams)?;
         let Ok(reader) = streams.reader(self.alloc) else {
             return Err(Fault::Input);
         };
-        let names = component_names(self.alloc, self.loaded)?;
-        let files = file_names(self.alloc, self.loaded)?;
         let mut hearing = Hearing {
             mirrored,
             names: names.as_slice(),
