@@ -121,8 +121,10 @@ fn put_list(
 fn bytes_of(alloc: Global, values: &[Value], most: usize) -> Result<Vec<u8>, AllocError> {
     let mut bytes = Vec::new(alloc);
     for value in values.iter().take(most) {
-        if let Value::Unsigned(byte) = value {
-            bytes.push(*byte as u8)?;
+        if let Value::Unsigned(number) = value {
+            if let Ok(byte) = u8::try_from(*number) {
+                bytes.push(byte)?;
+            }
         }
     }
     Ok(bytes)
