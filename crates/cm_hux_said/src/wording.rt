@@ -121,11 +121,19 @@ fn put_list(
 fn bytes_of(alloc: Global, values: &[Value], most: usize) -> Result<Vec<u8>, AllocError> {
     let mut bytes = Vec::new(alloc);
     for value in values.iter().take(most) {
-        if let Value::Unsigned(byte) = value {
-            bytes.push(*byte as u8)?;
+        if let Some(byte) = byte_of(value) {
+            bytes.push(byte)?;
         }
     }
     Ok(bytes)
+}
+
+/// The byte that a value is, if it is one.
+fn byte_of(value: &Value) -> Option<u8> {
+    match value {
+        Value::Unsigned(number) => u8::try_from(*number).ok(),
+        _ => None,
+    }
 }
 
 /// The text that bytes are, which may end within a character where they are not whole; none where
