@@ -29,6 +29,6 @@ makes_core_func _ = true
 
 -- how many core functions a section defines
 abbrev pub core_funcs_in : Section → ℕ
-core_funcs_in (section.Aliases aliases) = length (filter aliases_core_func aliases.items)
-core_funcs_in (section.Canons canons) = length (filter makes_core_func canons.items)
+core_funcs_in (section.Aliases aliases) = length (filter (λ a. aliases_core_func a) aliases.items)
+core_funcs_in (section.Canons canons) = length (filter (λ c. makes_core_func c) canons.items)
 core_funcs_in _ = 0

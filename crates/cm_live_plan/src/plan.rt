@@ -72,16 +72,30 @@ fn makes_core_func(canon: &Canon) -> bool
     !matches!(canon, Canon::Lift { .. })
 }
 
+/// How many of these aliases are of core functions.
+fn aliased_count(aliases: &[Alias]) -> usize
+    ensures { result ≡ length (filter (λ a. aliases_core_func a) aliases.now) }
+{
+    aliases
+        .iter()
+        .filter(|alias| aliases_core_func(alias))
+        .count()
+}
+
+/// How many of these canonical definitions make core functions.
+fn made_count(canons: &[Canon]) -> usize
+    ensures { result ≡ length (filter (λ c. makes_core_func c) canons.now) }
+{
+    canons.iter().filter(|canon| makes_core_func(canon)).count()
+}
+
 /// How many core functions a section defines.
 fn core_funcs_in(section: &Section) -> usize
     ensures { result ≡ core_funcs_in section.now }
 {
     match section {
-        Section::Aliases(aliases) => aliases
-            .iter()
-            .filter(|alias| aliases_core_func(alias))
-            .count(),
-        Section::Canons(canons) => canons.iter().filter(|canon| makes_core_func(canon)).count(),
+        Section::Aliases(aliases) => aliased_count(aliases),
+        Section::Canons(canons) => made_count(canons),
         _ => 0,
     }
 }
@@ -238,7 +252,9 @@ impl<O: Write> Plan<'_, '_, '_, '_, O> {
     fn write_canon(&mut self, canon: &Canon, index: usize) -> io::Result<()> {
         let word = match canon {
             Canon::Lift { .. } => return Ok(()),
-            Canon::Lower { .. } => return self.write_lower(index as u32),
+            Canon::Lower { .. } => return self.write_lower(u32::try_from(index).unwrap_or(
+                u32::MAX,
+            )),
             Canon::ResourceNew { .. } => "new",
             Canon::ResourceDrop { .. } => "drop",
             Canon::ResourceRep { .. } => "rep",
