@@ -1,15 +1,18 @@
-//! Compares two components or worlds: what the second lacks or has changed for users of the first.
+//! Compares what two components or worlds import and export: what the second in place of the first
+//! breaks, and for whom.
 //!
-//! Both are given by the text that shows a signature (`cm_tool_show::show`): a line for each import
-//! and export, and one for each item of an instance.
+//! The definitions say what is wanted of whom, what is offered for it, and when it serves.
 #![tactic(auto)]
 
-mod comparing;
-mod difference;
+mod bound;
+mod breaking;
 mod facing;
-mod listed;
-mod offers;
-mod pairs;
+mod held;
+mod judging;
+mod names;
+mod replacing;
+mod walk;
 
-pub use comparing::differences;
-pub use difference::{Change, Difference, Side};
+pub use breaking::{Break, BreakReason};
+pub use facing::Face;
+pub use replacing::{Broken, replaces};

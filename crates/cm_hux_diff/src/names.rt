@@ -1,0 +1,63 @@
+//! The names of imports and exports.
+
+ghost use Rattle.std.specs.Prelude.{◌≡◌, IfOk};
+ghost use Rattle.std.specs.String.{string_bytes};
+ghost use Rattle.cm_types.specs.ExternNames.{name_spelling};
+ghost use Rattle.cm_types.specs.ExternNameForms.{form_tree};
+ghost use Rattle.cm_types_arena.specs.declared.types.Types.{Types};
+ghost use Rattle.cm_wit_conforms.specs.Places.{extern_names};
+
+use cm_types::{ExternName, ExternNameForm};
+use cm_types_arena::Externs;
+use std::alloc::{AllocError, Global};
+
+/// The text of a name. Refused only where there is no memory.
+#[tactic(auto, using(crate::proofs::Texts::text_laws))]
+fn spelled(alloc: Global, name: ExternNameForm<'_>) -> Result<String, AllocError>
+    ensures { IfOk result (λ text. string_bytes text ≡ name_spelling (form_tree name.entry)) }
+{
+    match name {
+        ExternNameForm::Label(label) => String::from_str(alloc, label),
+        ExternNameForm::Method { resource, method } => {
+            format!(in alloc; "[method]{resource}.{method}")
+        }
+        ExternNameForm::Static { resource, function } => {
+            format!(in alloc; "[static]{resource}.{function}")
+        }
+        ExternNameForm::Constructor { resource } => format!(in alloc; "[constructor]{resource}"),
+        ExternNameForm::Interface {
+            namespace,
+            package,
+            interface,
+            version: None,
+        } => format!(in alloc; "{namespace}:{package}/{interface}"),
+        ExternNameForm::Interface {
+            namespace,
+            package,
+            interface,
+            version: Some(version),
+        } => format!(in alloc; "{namespace}:{package}/{interface}@{version}"),
+    }
+}
+
+/// A name by itself. Refused only where there is no memory.
+fn name_of(alloc: Global, form: ExternNameForm<'_>) -> Result<ExternName, AllocError>
+    ensures { IfOk result (λ name. name ≡ name_spelling (form_tree form.entry)) }
+{
+    let text = spelled(alloc, form)?;
+    // A name of a signature is one, so what is refused is memory.
+    ExternName::parse(alloc, text.as_str()).map_err(|_| AllocError)
+}
+
+/// The names of imports or exports, in order. Refused only where there is no memory.
+pub(crate) fn names_of(alloc: Global, externs: &Externs) -> Result<Vec<ExternName>, AllocError>
+    ensures { IfOk result (λ v. (t : Types) → v.items ≡ extern_names t externs.now) }
+{
+    let mut names = Vec::with_capacity(alloc, externs.len())?;
+    for place in 0..externs.len() {
+        if let Some(each) = externs.at(place) {
+            names.push(name_of(alloc, each.name)?)?;
+        }
+    }
+    Ok(names)
+}
