@@ -1,1 +1,6 @@
 pub mod Texts
+pub mod Places
+pub mod Faces
+pub mod Bindings
+pub mod Breaks
+pub mod Entries

@@ -18,7 +18,7 @@ use Rattle.cm_types.specs.Signatures.{ItemTy, NamedExtern, SignatureTy}
 use Rattle.cm_types_numbers.specs.Moved.{brought_func, brought_type}
 use Rattle.cm_types_numbers.specs.Numbering.{numbering}
 use Rattle.cm_types_numbers.specs.PlacedTables.{KnowsPlaced}
-use Rattle.cm_hux_diff.specs.Breaking.{at_host}
+use Rattle.cm_hux_diff.specs.Breaking.{at_host, marked}
 use Rattle.cm_hux_diff.specs.Facing.{host_face, names}
 use Rattle.cm_hux_diff.specs.Held as all
 use Rattle.cm_hux_diff.specs.declared.facing.Links.{Links}
@@ -27,6 +27,7 @@ use Rattle.cm_hux_diff.specs.declared.held.Held.{Held}
 use Rattle.cm_hux_diff.specs.declared.held.TwoInstances.{TwoInstances}
 use Rattle.cm_hux_diff.specs.declared.held.Held.TheVariants as held
 use Rattle.cm_hux_diff.specs.declared.bound.Bound.{Bound}
+use Rattle.cm_hux_diff.specs.declared.bound.Side.{Side}
 use Rattle.cm_hux_diff.specs.declared.judging.Tables.{Tables}
 use Rattle.cm_hux_diff.specs.declared.replacing.AtHost.{AtHost}
 
@@ -66,14 +67,16 @@ instance_entries w o two =
 abbrev pub bound_in : Bound → ℕ → Option ResourceId
 bound_in table n = get nat_cmp table.numbers n
 
--- what a table says stands for resources, and this mark where it has nothing
-abbrev pub bound_or : Bound → (ResourceId → ResourceId) → Standing
-bound_or table mark r = unwrap_or (bound_in table r.number) (mark r)
+-- what stands for the resources of a side
+abbrev pub standing_of : Side → Standing
+standing_of side r = unwrap_or (bound_in side.bound.now r.number) (marked side.mark r)
 
 -- What is known of the types of both sides are their numbers, each resource replaced.
-pub record AreKnown (w o : Types) (wanted offered : Standing) (tables : Tables) : Type 0 where
-  pub of_wanted : KnowsPlaced (numbering tables.numbers) wanted w tables.wanted
-  pub of_offered : KnowsPlaced (numbering tables.numbers) offered o tables.offered
+pub record AreKnown (wanted offered : Side) (tables : Tables) : Type 0 where
+  pub of_wanted :
+      KnowsPlaced (numbering tables.numbers) (standing_of wanted) wanted.types.now tables.wanted
+  pub of_offered :
+      KnowsPlaced (numbering tables.numbers) (standing_of offered) offered.types.now tables.offered
 
 -- The names of the imports and exports of the old one, and of the exports of the new one, are in
 -- these tables.

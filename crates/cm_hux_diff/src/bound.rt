@@ -2,13 +2,13 @@
 
 ghost use Rattle.std.specs.Prelude.{◌≡◌, ◌==◌, ℕ, None, OnOk, Some, if◌then◌else◌, map};
 ghost use Rattle.std.specs.Option.{option_or};
-ghost use Rattle.cm_types_arena.specs.declared.types.Types.{Types};
+ghost use Rattle.cm_types_arena.specs.declared.types.Types.{Types as Arena};
 ghost use Rattle.cm_hux_diff.specs.Breaking.{binds, bound, marked};
-ghost use Rattle.cm_hux_diff.specs.Views.{bound_in, bound_or, entry_view, held_view};
+ghost use Rattle.cm_hux_diff.specs.Views.{bound_in, entry_view, held_view, standing_of};
 
 use crate::held::{Entry, Held};
 use cm_types::ResourceId;
-use cm_types_arena::Replacement;
+use cm_types_arena::{Replacement, Types};
 use std::alloc::{AllocError, Global};
 use std::collections::BTreeMap;
 
@@ -19,18 +19,6 @@ fn marked(side: u32, resource: ResourceId) -> ResourceId
     ResourceId {
         component: side,
         number: resource.number,
-    }
-}
-
-/// What is offered stands for itself, with the mark of the host.
-#[derive(Clone, Copy)]
-pub(crate) struct OfHost;
-
-impl Replacement for OfHost {
-    ghost replacement = { λ host. marked 0 };
-
-    fn replace(&self, id: ResourceId) -> ResourceId {
-        marked(0, id)
     }
 }
 
@@ -69,10 +57,11 @@ impl Bound {
     }
 
     /// Binds the resource that is wanted to what is offered for it, unless it is bound.
-    fn note<R: Replacement>(&mut self, offered: &R, held: Held) -> Result<(), AllocError>
-        ensures { OnOk result ((w o : Types) (n : ℕ) → bound_in self.new n
+    #[tactic(auto, using(crate::proofs::Bindings::noted_none))]
+    fn note(&mut self, offered: &Side<'_>, held: Held) -> Result<(), AllocError>
+        ensures { OnOk result ((w o : Arena) (n : ℕ) → bound_in self.new n
             ≡ option_or (bound_in self.old n)
-            (binds (R.replacement offered.now) (held_view w o held) n)) }
+            (binds (standing_of offered.now) (held_view w o held) n)) }
     {
         match held {
             Held::Resources(a, b) => self.bind(a.number, offered.replace(b)),
@@ -85,14 +74,15 @@ impl Bound {
     }
 
     /// Binds each resource that is wanted and not bound yet to what it is offered first.
-    pub(crate) fn note_all<R: Replacement>(
+    #[tactic(auto, using(crate::proofs::Bindings::noted_none))]
+    pub(crate) fn note_all(
         &mut self,
-        offered: &R,
+        offered: &Side<'_>,
         entries: &[Entry],
     ) -> Result<(), AllocError>
-        ensures { OnOk result ((w o : Types) (n : ℕ) → bound_in self.new n
+        ensures { OnOk result ((w o : Arena) (n : ℕ) → bound_in self.new n
             ≡ option_or (bound_in self.old n)
-            (bound (R.replacement offered.now) (map (entry_view w o) entries.now) n)) }
+            (bound (standing_of offered.now) (map (entry_view w o) entries.now) n)) }
     {
         for entry in entries {
             self.note(offered, entry.held)?;
@@ -101,18 +91,19 @@ impl Bound {
     }
 }
 
-/// What a table has for a resource stands for it, or else the resource with a mark.
+/// The types of what is wanted, or of what is offered, and what stands for the resources in them:
+/// what is bound to them, or else they themselves with a mark.
 #[derive(Clone, Copy)]
-pub(crate) struct OrMarked<'a> {
+pub(crate) struct Side<'a> {
+    pub(crate) types: &'a Types,
     pub(crate) bound: &'a Bound,
     pub(crate) mark: u32,
 }
 
-impl<'a> Replacement for OrMarked<'a> {
-    ghost use Rattle.cm_hux_diff.specs.Breaking.{marked};
-    ghost use Rattle.cm_hux_diff.specs.Views.{bound_or};
+impl<'a> Replacement for Side<'a> {
+    ghost use Rattle.cm_hux_diff.specs.Views.{standing_of};
 
-    ghost replacement = { λ it. bound_or it.bound.now (marked it.mark) };
+    ghost replacement = { standing_of };
 
     fn replace(&self, id: ResourceId) -> ResourceId {
         match self.bound.get(id.number) {

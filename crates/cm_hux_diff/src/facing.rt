@@ -1,6 +1,7 @@
 //! Which imports and exports of two signatures face each other.
 
 ghost use Rattle.std.specs.Prelude.{◌≡◌, ◌&&◌, IfOk, None, map, option_and_then, slice_get};
+ghost use Rattle.std.specs.Prelude.{slice_index_or};
 ghost use Rattle.cm_types.specs.Signatures.{SignatureTy};
 ghost use Rattle.cm_types_arena.specs.Signatures.{signature_of};
 ghost use Rattle.cm_types_arena.specs.declared.types.Types.{Types};
@@ -172,6 +173,38 @@ impl Offers {
             None => self.greatest_face(alloc, wanted),
         }
     }
+
+    /// Marks those that fit a name. It costs time linear in all of them.
+    fn mark_fitting(
+        &self,
+        alloc: Global,
+        wanted: &ExternName,
+        marks: &mut [bool],
+    ) -> Result<(), AllocError> {
+        for (place, name) in self.names.iter().enumerate() {
+            if fits(alloc, wanted, name)? {
+                mark(marks, place);
+            }
+        }
+        Ok(())
+    }
+}
+
+/// Marks a place.
+fn mark(marks: &mut [bool], place: usize) {
+    if let Some(mark) = marks.get_mut(place) {
+        *mark = true;
+    }
+}
+
+/// The place that was found for the name at a place.
+fn place_at(places: &[Option<usize>], place: usize) -> Option<usize>
+    ensures { result ≡ slice_index_or places.now place None }
+{
+    match places.get(place) {
+        Some(found) => *found,
+        None => None,
+    }
 }
 
 /// What of a host's exports, which are these imports of the old one, faces each import. Refused
@@ -189,11 +222,7 @@ pub(crate) fn host_faces(
     let places = extern_places(alloc, imports, served)?;
     let mut faces = Vec::with_capacity(alloc, wanted.len())?;
     for (place, name) in wanted.iter().enumerate() {
-        let found = match places.get(place) {
-            Some(found) => *found,
-            None => None,
-        };
-        faces.push(offers.host_face(alloc, name, found)?)?;
+        faces.push(offers.host_face(alloc, name, place_at(&places, place))?)?;
     }
     Ok(faces)
 }
@@ -288,5 +317,35 @@ impl Links {
             }
         }
         Ok(places)
+    }
+
+    /// Which exports of the new one fit the name of one of the old one's, or the reverse. Refused
+    /// only where there is no memory.
+    pub(crate) fn met(&self, alloc: Global) -> Result<Vec<bool>, AllocError> {
+        let mut met = Vec::with_capacity(alloc, self.offers.names.len())?;
+        for name in &self.offers.names {
+            met.push(!matches!(self.exports.found(alloc, name)?, Candidate::None))?;
+        }
+        for name in &self.exports.names {
+            self.mark_met(alloc, name, &mut met)?;
+        }
+        Ok(met)
+    }
+
+    /// Marks the exports of the new one that fit the name of one of the old one's.
+    fn mark_met(
+        &self,
+        alloc: Global,
+        wanted: &ExternName,
+        met: &mut [bool],
+    ) -> Result<(), AllocError> {
+        match self.offers.found(alloc, wanted)? {
+            Candidate::None => Ok(()),
+            Candidate::One { export, .. } => {
+                mark(met, export);
+                Ok(())
+            }
+            Candidate::Several => self.offers.mark_fitting(alloc, wanted, met),
+        }
     }
 }

@@ -1,27 +1,21 @@
 //! Whether what is offered serves what is wanted.
 
 ghost use Rattle.std.specs.Prelude.{◌≡◌, ◌↔◌, IfOk, IsTrue, OnOk, map};
-ghost use Rattle.cm_types_arena.specs.Replaced.{Standing, replaced, replaced_func};
-ghost use Rattle.cm_types_arena.specs.declared.types.Types.{Types as Arena};
+ghost use Rattle.cm_types_arena.specs.Replaced.{replaced, replaced_func};
 ghost use Rattle.cm_types_numbers.specs.Moved.{brought_func, brought_type};
 ghost use Rattle.cm_hux_diff.specs.Breaking.{AreBreaks, Serves};
-ghost use Rattle.cm_hux_diff.specs.Views.{AreKnown, entry_view, held_view};
+ghost use Rattle.cm_hux_diff.specs.Views.{AreKnown, entry_view, held_view, standing_of};
+ghost use Rattle.cm_hux_diff.specs.declared.bound.Side.{Side as Sided};
 
+use crate::bound::Side;
 use crate::breaking::Break;
 use crate::held::{Entry, Held};
 use cm_types::same_resource;
-use cm_types_arena::{Replacement, Types};
+use cm_types_arena::Replacement;
 use cm_types_numbers::laws::numbers_stay;
 use cm_types_numbers::placed_laws::known_stays;
 use cm_types_numbers::{Brought, KnownPlaced, Numbers};
 use std::alloc::{AllocError, Global};
-
-/// The types of what is wanted, or of what is offered, and what stands for the resources in them.
-#[derive(Drop)]
-pub(crate) struct Side<'a, R> {
-    pub(crate) types: &'a Types,
-    pub(crate) standing: &'a R,
-}
 
 /// The numbers of the types of both sides, and which are known already, so that each type is
 /// numbered once for each way in which its resources are moved.
@@ -34,8 +28,7 @@ pub(crate) struct Tables {
 
 impl Tables {
     fn new(alloc: Global) -> Tables
-        ensures { (w o : Arena) (wanted offered : Standing)
-            → AreKnown w o wanted offered result }
+        ensures { (wanted offered : Sided) → AreKnown wanted offered result }
     {
         Tables {
             numbers: Numbers::new(alloc),
@@ -45,84 +38,75 @@ impl Tables {
     }
 
     /// Whether two types are equal, each resource in them replaced.
-    fn same_types<R: Replacement, S: Replacement>(
+    fn same_types(
         &mut self,
         alloc: Global,
-        wanted: &Side<'_, R>,
+        wanted: &Side<'_>,
         x: Brought,
-        offered: &Side<'_, S>,
+        offered: &Side<'_>,
         y: Brought,
     ) -> Result<bool, AllocError>
-        requires { AreKnown wanted.now.types.now offered.now.types.now
-            (R.replacement wanted.now.standing.now) (S.replacement offered.now.standing.now) self.old }
+        requires { AreKnown wanted.now offered.now self.old }
         ensures same { IfOk result (λ same. IsTrue same
-            ↔ (replaced (R.replacement wanted.now.standing.now) (brought_type wanted.now.types.now x)
-            ≡ replaced (S.replacement offered.now.standing.now)
+            ↔ (replaced (standing_of wanted.now) (brought_type wanted.now.types.now x)
+            ≡ replaced (standing_of offered.now)
             (brought_type offered.now.types.now y))) }
-        ensures known { OnOk result (AreKnown wanted.now.types.now offered.now.types.now
-            (R.replacement wanted.now.standing.now) (S.replacement offered.now.standing.now)
-            self.new) }
+        ensures known { OnOk result (AreKnown wanted.now offered.now self.new) }
     {
         numbers_stay();
         known_stays();
         let left = self
             .wanted
-            .number_type(alloc, &mut self.numbers, wanted.standing, wanted.types, x)?;
+            .number_type(alloc, &mut self.numbers, wanted, wanted.types, x)?;
         let right = self
             .offered
-            .number_type(alloc, &mut self.numbers, offered.standing, offered.types, y)?;
+            .number_type(alloc, &mut self.numbers, offered, offered.types, y)?;
         self.numbers.tell_apart();
         Ok(left == right)
     }
 
     /// Whether two types of functions are equal, each resource in them replaced.
-    fn same_funcs<R: Replacement, S: Replacement>(
+    fn same_funcs(
         &mut self,
         alloc: Global,
-        wanted: &Side<'_, R>,
+        wanted: &Side<'_>,
         f: Brought,
-        offered: &Side<'_, S>,
+        offered: &Side<'_>,
         g: Brought,
     ) -> Result<bool, AllocError>
-        requires { AreKnown wanted.now.types.now offered.now.types.now
-            (R.replacement wanted.now.standing.now) (S.replacement offered.now.standing.now) self.old }
+        requires { AreKnown wanted.now offered.now self.old }
         ensures same { IfOk result (λ same. IsTrue same
-            ↔ (replaced_func (R.replacement wanted.now.standing.now)
+            ↔ (replaced_func (standing_of wanted.now)
             (brought_func wanted.now.types.now f)
-            ≡ replaced_func (S.replacement offered.now.standing.now)
+            ≡ replaced_func (standing_of offered.now)
             (brought_func offered.now.types.now g))) }
-        ensures known { OnOk result (AreKnown wanted.now.types.now offered.now.types.now
-            (R.replacement wanted.now.standing.now) (S.replacement offered.now.standing.now)
-            self.new) }
+        ensures known { OnOk result (AreKnown wanted.now offered.now self.new) }
     {
         numbers_stay();
         known_stays();
         let left = self
             .wanted
-            .number_func_type(alloc, &mut self.numbers, wanted.standing, wanted.types, f)?;
+            .number_func_type(alloc, &mut self.numbers, wanted, wanted.types, f)?;
         let right = self
             .offered
-            .number_func_type(alloc, &mut self.numbers, offered.standing, offered.types, g)?;
+            .number_func_type(alloc, &mut self.numbers, offered, offered.types, g)?;
         self.numbers.tell_apart();
         Ok(left == right)
     }
 
     /// Whether what is offered serves. Refused only where there is no memory.
-    fn serves<R: Replacement, S: Replacement>(
+    fn serves(
         &mut self,
         alloc: Global,
-        wanted: &Side<'_, R>,
-        offered: &Side<'_, S>,
+        wanted: &Side<'_>,
+        offered: &Side<'_>,
         held: Held,
     ) -> Result<bool, AllocError>
-        requires { AreKnown wanted.now.types.now offered.now.types.now
-            (R.replacement wanted.now.standing.now) (S.replacement offered.now.standing.now) self.old }
+        requires { AreKnown wanted.now offered.now self.old }
         ensures serves { IfOk result (λ serves. IsTrue serves
-            ↔ Serves (R.replacement wanted.now.standing.now) (S.replacement offered.now.standing.now)
+            ↔ Serves (standing_of wanted.now) (standing_of offered.now)
             (held_view wanted.now.types.now offered.now.types.now held)) }
-        ensures known { OnOk result (AreKnown wanted.now.types.now offered.now.types.now
-            (R.replacement wanted.now.standing.now) (S.replacement offered.now.standing.now)
-            self.new) }
+        ensures known { OnOk result (AreKnown wanted.now offered.now self.new) }
     {
         match held {
             Held::Nothing => Ok(false),
@@ -131,22 +115,22 @@ impl Tables {
             Held::Funcs(f, g) => self.same_funcs(alloc, wanted, f, offered, g),
             Held::Types(x, y) => self.same_types(alloc, wanted, x, offered, y),
             Held::Resources(a, b) => Ok(same_resource(
-                wanted.standing.replace(a),
-                offered.standing.replace(b),
+                wanted.replace(a),
+                offered.replace(b),
             )),
         }
     }
 }
 
 /// All that does not serve, in order. Refused only where there is no memory.
-pub(crate) fn breaks_of<R: Replacement, S: Replacement>(
+pub(crate) fn breaks_of(
     alloc: Global,
-    wanted: &Side<'_, R>,
-    offered: &Side<'_, S>,
+    wanted: &Side<'_>,
+    offered: &Side<'_>,
     entries: &[Entry],
 ) -> Result<Vec<Break>, AllocError>
-    ensures { IfOk result (λ breaks. AreBreaks (R.replacement wanted.now.standing.now)
-        (S.replacement offered.now.standing.now)
+    ensures { IfOk result (λ breaks. AreBreaks (standing_of wanted.now)
+        (standing_of offered.now)
         (map (entry_view wanted.now.types.now offered.now.types.now) entries.now) breaks.items) }
 {
     let mut tables = Tables::new(alloc);

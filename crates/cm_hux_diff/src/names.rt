@@ -46,7 +46,10 @@ fn name_of(alloc: Global, form: ExternNameForm<'_>) -> Result<ExternName, AllocE
 {
     let text = spelled(alloc, form)?;
     // A name of a signature is one, so what is refused is memory.
-    ExternName::parse(alloc, text.as_str()).map_err(|_| AllocError)
+    match ExternName::parse(alloc, text.as_str()) {
+        Ok(name) => Ok(name),
+        Err(_) => Err(AllocError),
+    }
 }
 
 /// The names of imports or exports, in order. Refused only where there is no memory.

@@ -8,11 +8,11 @@ ghost use Rattle.cm_hux_diff.specs.Held.{host_entries, user_entries};
 ghost use Rattle.cm_hux_diff.specs.Facing.{names, user_face};
 ghost use Rattle.cm_hux_diff.specs.Views.{IsAtHost};
 
-use crate::bound::{Bound, OfHost, OrMarked};
+use crate::bound::{Bound, Side};
 use crate::breaking::Break;
 use crate::facing::{Face, Links, host_faces};
 use crate::held::Entry;
-use crate::judging::{Side, breaks_of};
+use crate::judging::breaks_of;
 use crate::walk::entries_of;
 use cm_types_arena::Signature;
 use std::alloc::{AllocError, Global};
@@ -31,6 +31,9 @@ pub struct Broken {
     /// The places of the imports of the old one that the new one exports and the old one does not:
     /// who imports them from a host of both finds two.
     pub hosted: Vec<usize>,
+    /// Which exports of the new one fit the name of one of the old one's, or the reverse: others may
+    /// clash with components that export them.
+    pub met: Vec<bool>,
 }
 
 /// What a signature imports, held against the imports of the old one, which a host serves.
@@ -47,8 +50,14 @@ fn at_host(alloc: Global, served: &Signature, of: &Signature) -> Result<AtHost, 
 {
     let faces = host_faces(alloc, served.imports(), of.imports())?;
     let entries = entries_of(alloc, of.imports(), served.imports(), &faces)?;
+    let none = Bound::new(alloc);
     let mut bound = Bound::new(alloc);
-    bound.note_all(&OfHost, &entries)?;
+    let offered = Side {
+        types: served.types(),
+        bound: &none,
+        mark: 0,
+    };
+    bound.note_all(&offered, &entries)?;
     Ok(AtHost {
         faces,
         entries,
@@ -69,17 +78,16 @@ fn hosts_broken(
         (wanted_of_hosts (signature_of old.now) (signature_of new.now)) (marked 0)
         (host_entries (imports_in old.now) (imports_in new.now)) breaks.items) }
 {
-    let standing = OrMarked {
+    let none = Bound::new(alloc);
+    let wanted = Side {
+        types: new.types(),
         bound: &hosts.bound,
         mark: 2,
     };
-    let wanted = Side {
-        types: new.types(),
-        standing: &standing,
-    };
     let offered = Side {
         types: old.types(),
-        standing: &OfHost,
+        bound: &none,
+        mark: 0,
     };
     breaks_of(alloc, &wanted, &offered, &hosts.entries)
 }
@@ -106,23 +114,17 @@ fn users_broken(
         (user_entries (signature_of old.now) (signature_of new.now)) breaks.items) }
 {
     let entries = entries_of(alloc, old.exports(), new.exports(), faces)?;
-    let offering = OrMarked {
+    let offered = Side {
+        types: new.types(),
         bound: &hosts.bound,
         mark: 1,
     };
     let mut bound = given.bound;
-    bound.note_all(&offering, &entries)?;
-    let wanting = OrMarked {
-        bound: &bound,
-        mark: 2,
-    };
+    bound.note_all(&offered, &entries)?;
     let wanted = Side {
         types: old.types(),
-        standing: &wanting,
-    };
-    let offered = Side {
-        types: new.types(),
-        standing: &offering,
+        bound: &bound,
+        mark: 2,
     };
     breaks_of(alloc, &wanted, &offered, &entries)
 }
@@ -146,6 +148,7 @@ pub fn replaces(alloc: Global, old: &Signature, new: &Signature) -> Result<Broke
     let links = Links::new(alloc, old, new)?;
     let exports = links.user_faces(alloc)?;
     let hosted = links.hosted(alloc)?;
+    let met = links.met(alloc)?;
     let at_new = at_host(alloc, old, new)?;
     let at_old = at_host(alloc, old, old)?;
     let hosts = hosts_broken(alloc, old, new, &at_new)?;
@@ -156,5 +159,6 @@ pub fn replaces(alloc: Global, old: &Signature, new: &Signature) -> Result<Broke
         hosts,
         users,
         hosted,
+        met,
     })
 }
