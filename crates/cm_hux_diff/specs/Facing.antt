@@ -64,13 +64,17 @@ abbrev pub is_greater : Option (List ℕ) → List ℕ → Bool
 is_greater None name = true
 is_greater (Some best) name = not (fits name best)
 
+-- the greater of the greatest so far and this one at a place, if that fits
+abbrev pub greater_of : List (List ℕ) → List ℕ → Option ℕ → ℕ → List ℕ → Option ℕ
+greater_of texts wanted best n x =
+    if fits wanted x && is_greater (option_and_then (slice_get texts) best) x then Some n
+    else best
+
 -- the place of the greatest of those that fit, counted from n on, where this is it so far
 abbrev pub greatest_from : List (List ℕ) → List ℕ → Option ℕ → ℕ → List (List ℕ) → Option ℕ
 greatest_from texts wanted best n [] = best
 greatest_from texts wanted best n (x ∷ xs) =
-    greatest_from texts wanted
-    (if fits wanted x && is_greater (option_and_then (slice_get texts) best) x then Some n else best)
-    (n + 1) xs
+    greatest_from texts wanted (greater_of texts wanted best n x) (n + 1) xs
 
 abbrev pub face_at : Option ℕ → Face
 face_at None = face.Nothing

@@ -21,7 +21,7 @@ use Rattle.cm_types_numbers.specs.PlacedTables.{KnowsPlaced}
 use Rattle.cm_hux_diff.specs.Breaking.{at_host, marked}
 use Rattle.cm_hux_diff.specs.Facing.{host_face, names}
 use Rattle.cm_hux_diff.specs.Held as all
-use Rattle.cm_hux_diff.specs.declared.facing.Links.{Links}
+use Rattle.cm_hux_diff.specs.declared.links.Links.{Links}
 use Rattle.cm_hux_diff.specs.declared.held.Entry.{Entry}
 use Rattle.cm_hux_diff.specs.declared.held.Held.{Held}
 use Rattle.cm_hux_diff.specs.declared.held.TwoInstances.{TwoInstances}

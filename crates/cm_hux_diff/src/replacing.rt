@@ -10,9 +10,10 @@ ghost use Rattle.cm_hux_diff.specs.Views.{IsAtHost};
 
 use crate::bound::{Bound, Side};
 use crate::breaking::Break;
-use crate::facing::{Face, Links, host_faces};
+use crate::facing::Face;
 use crate::held::Entry;
 use crate::judging::breaks_of;
+use crate::links::{Links, host_faces};
 use crate::walk::entries_of;
 use cm_types_arena::Signature;
 use std::alloc::{AllocError, Global};
