@@ -1,10 +1,11 @@
 -- What resources are bound to, entry by entry.
-use Rattle.std.proofs.Common.{◌≡◌, ℕ, ◌==◌, Bool, List, [], ◌∷◌, ◌++◌, map, Option, Some, None, refl, sym, ap, ◌∙◌}
+use Rattle.std.proofs.Common.{◌≡◌, ℕ, ◌+◌, ◌<◌, List, [], ◌∷◌, ◌++◌, length, get_or, take, map, Option, Some, None, refl, sym, ap, ◌∙◌}
 use Rattle.std.specs.Option.{option_or}
 use Rattle.cm_types.specs.declared.resource.ResourceId.{ResourceId}
 use Rattle.cm_types_arena.specs.Replaced.{Standing}
 use Rattle.cm_hux_diff.specs.Breaking.{binds, bound}
 use Rattle.cm_hux_diff.specs.Held.{Entry}
+use Rattle.cm_hux_diff.proofs.Places.{mapped_next}
 
 or_assoc : (a b c : Option ResourceId) → option_or (option_or a b) c ≡ option_or a (option_or b c)
 or_assoc None b c = refl
@@ -29,3 +30,9 @@ noted_more by es e n old before after was is =
 
 pub noted_none : (old : Option ResourceId) → old ≡ option_or old None
 noted_none old = sym (or_none old)
+
+-- one more of the code's entries
+pub noted_next : {C : Type 0} (view : C → Entry) (by : Standing) (xs : List C) (i : ℕ) (x : C) (n : ℕ) (old before after : Option ResourceId) → i < length xs → x ≡ get_or xs i x → before ≡ option_or old (bound by (map view (take i xs)) n) → after ≡ option_or before (binds by (view x).held n) → after ≡ option_or old (bound by (map view (take (i + 1) xs)) n)
+noted_next view by xs i x n old before after lt at was is =
+    noted_more by (map view (take i xs)) (view x) n old before after was is
+    ∙ ap (λ (es : List Entry). option_or old (bound by es n)) (sym (mapped_next view xs i x lt at))

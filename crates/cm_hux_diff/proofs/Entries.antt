@@ -1,7 +1,7 @@
 -- All that is held, import by import and item by item.
 use Rattle.std.proofs.Common.{◌≡◌, ℕ, zero, suc, ◌+◌, ◌<◌, ◌≤◌, List, [], ◌∷◌, ◌++◌, length, map, take, get_or, Option, Some, None, refl, sym, ap, subst, ◌∙◌, arith, append_assoc, append-nil}
 use Rattle.std.specs.List.{slice_get}
-use Rattle.std.specs.Option.{option_and_then, option_map}
+use Rattle.std.specs.Option.{option_and_then, option_map, option_map_or}
 use Rattle.std.proofs.lemmas.List.{length-map, take_all}
 use Rattle.std.proofs.lemmas.Option.{slice_get-map, slice_get_within}
 use Rattle.cm_lemmas.proofs.Lists.{take_one}
@@ -10,12 +10,13 @@ use Rattle.cm_types.specs.Signatures.{ItemTy, NamedExtern, NamedItem}
 use Rattle.cm_types_arena.specs.declared.types.Types.{Types}
 use Rattle.cm_types_arena.specs.Instances.{replaced_desc, replaced_item}
 use Rattle.cm_types_arena.specs.Placed.{moved_by}
-use Rattle.cm_types_arena.specs.Listed.{brought_items, by_of, item_in, items_listed}
+use Rattle.cm_types_arena.specs.Listed.{brought_items, by_of, externs_listed, item_in, items_listed}
+use Rattle.cm_types_arena.specs.declared.named_externs.Externs.{Externs}
 use Rattle.cm_types_arena.specs.declared.named_externs.Items.{Items}
 use Rattle.cm_types_arena.specs.declared.named_externs.NamedItem as code_item
-use Rattle.cm_wit_conforms.specs.Places.{item_names, place_in}
+use Rattle.cm_wit_conforms.specs.Places.{extern_names, item_names, place_in}
 use Rattle.cm_hux_diff.specs.Held.{Entry, Held, desc_held, entries_from, face_entries, item_entries, item_entry, item_held, item_named}
-use Rattle.cm_hux_diff.specs.Views.{item_brought, item_stands}
+use Rattle.cm_hux_diff.specs.Views.{entries_at, item_brought, item_stands}
 use Rattle.cm_hux_diff.specs.declared.facing.Face.{Face}
 use Rattle.cm_hux_diff.proofs.Places.{length_taken, take_none}
 
@@ -98,27 +99,6 @@ placed_found texts others places n lt is =
     each (x ∷ xs) zero lt = refl
     each (x ∷ xs) (suc n) lt = each xs n (omega (arith, lt))
 
--- ---- entries behind those that there were
-
-module _ {C D : Type 0} (view : C → D) (old : List D) where
-  -- one more of those that are to come
-  pub taken_some : (all : List D) (n : ℕ) (before after : List C) (c : C) → slice_get all n ≡ Some (view c) → after ≡ before ++ c ∷ [] → map view before ≡ old ++ take n all → map view after ≡ old ++ take (n + 1) all
-  taken_some all n before after c here is h =
-      ap (map view) is
-      ∙ (map_push before c
-      ∙ (ap (λ (l : List D). l ++ view c ∷ []) h
-      ∙ (append_assoc old (take n all) (view c ∷ []) ∙ ap (λ (l : List D). old ++ l) (sym (take_one all n (view c) here)))))
-    where
-      map_push : (xs : List C) (x : C) → map view (xs ++ x ∷ []) ≡ map view xs ++ view x ∷ []
-      map_push [] x = refl
-      map_push (y ∷ xs) x = ap (λ (l : List D). view y ∷ l) (map_push xs x)
-
-  pub taken_none : (all : List D) (n : ℕ) (before after : List C) → slice_get all n ≡ None → after ≡ before → map view before ≡ old ++ take n all → map view after ≡ old ++ take (n + 1) all
-  taken_none all n before after none is h = ap (map view) is ∙ (h ∙ ap (λ (l : List D). old ++ l) (sym (take_none all n none)))
-
-  pub taken_all : (all : List D) (n : ℕ) (last : List C) → length all ≤ n → map view last ≡ old ++ take n all → map view last ≡ old ++ all
-  taken_all all n last le h = h ∙ ap (λ (l : List D). old ++ l) (take_all n all le)
-
 -- ---- import by import
 
 entries_append : (facing : List ℕ → Face) (offered : List NamedExtern) (i : ℕ) (xs ys : List NamedExtern) → entries_from facing offered i (xs ++ ys) ≡ entries_from facing offered i xs ++ entries_from facing offered (i + length xs) ys
@@ -153,3 +133,27 @@ face_there facing xs faces n x f is lt at here = at ∙ (ap (λ (l : List Face).
 -- there are as many faces as imports or exports
 pub as_many : (facing : List ℕ → Face) (xs : List NamedExtern) (faces : List Face) → faces ≡ map facing (map (λ (e : NamedExtern). e.name) xs) → length faces ≡ length xs
 as_many facing xs faces is = ap (λ (l : List Face). length l) is ∙ (length-map (map (λ (e : NamedExtern). e.name) xs) facing ∙ length-map xs (λ (e : NamedExtern). e.name))
+
+-- those of one more import or export
+pub entries_next : (w o : Types) (facing : List ℕ → Face) (wanted offered : Externs) (faces : List Face) (n : ℕ) (f : Face) (before after : List Entry) → faces ≡ map facing (extern_names w wanted) → n < length faces → f ≡ get_or faces n f → before ≡ entries_from facing (externs_listed o offered) 0 (take n (externs_listed w wanted)) → after ≡ before ++ entries_at w o n wanted offered f → after ≡ entries_from facing (externs_listed o offered) 0 (take (n + 1) (externs_listed w wanted))
+entries_next w o facing wanted offered faces n f before after is lt at was step =
+    step ∙ (ap (λ (l : List Entry). l ++ entries_at w o n wanted offered f) was ∙ by (slice_get (externs_listed w wanted) n) refl)
+  where
+    by : (x : Option NamedExtern) → slice_get (externs_listed w wanted) n ≡ x → entries_from facing (externs_listed o offered) 0 (take n (externs_listed w wanted)) ++ entries_at w o n wanted offered f ≡ entries_from facing (externs_listed o offered) 0 (take (n + 1) (externs_listed w wanted))
+    by None h =
+        ap (λ (x : Option NamedExtern). entries_from facing (externs_listed o offered) 0 (take n (externs_listed w wanted)) ++ option_map_or (λ (y : NamedExtern). face_entries n (externs_listed o offered) y.desc f) x []) h
+        ∙ (append-nil (entries_from facing (externs_listed o offered) 0 (take n (externs_listed w wanted)))
+        ∙ ap (entries_from facing (externs_listed o offered) 0) (sym (take_none (externs_listed w wanted) n h)))
+    by (Some x) h =
+        ap (λ (y : Option NamedExtern). entries_from facing (externs_listed o offered) 0 (take n (externs_listed w wanted)) ++ option_map_or (λ (z : NamedExtern). face_entries n (externs_listed o offered) z.desc f) y []) h
+        ∙ (ap (λ (g : Face). entries_from facing (externs_listed o offered) 0 (take n (externs_listed w wanted)) ++ face_entries n (externs_listed o offered) x.desc g) (face_there facing (externs_listed w wanted) faces n x f is lt at h)
+        ∙ sym (entries_one facing (externs_listed o offered) n (externs_listed w wanted) x h))
+
+pub entries_end : (w o : Types) (facing : List ℕ → Face) (wanted offered : Externs) (faces : List Face) (n : ℕ) (out : List Entry) → faces ≡ map facing (extern_names w wanted) → length faces ≤ n → out ≡ entries_from facing (externs_listed o offered) 0 (take n (externs_listed w wanted)) → out ≡ entries_from facing (externs_listed o offered) 0 (externs_listed w wanted)
+entries_end w o facing wanted offered faces n out is le was =
+    let long : length faces ≡ length (externs_listed w wanted) = as_many facing (externs_listed w wanted) faces is in
+    was ∙ ap (entries_from facing (externs_listed o offered) 0) (take_all n (externs_listed w wanted) (omega (arith, long, le)))
+
+-- there are as many places as items
+pub all_placed : (w o : Types) (wanted offered : Items) (places : List (Option ℕ)) → places ≡ map (place_in (item_names o offered)) (item_names w wanted) → length places ≡ length (items_listed w wanted)
+all_placed w o wanted offered places e = ap (λ (l : List (Option ℕ)). length l) e ∙ (length-map (item_names w wanted) (place_in (item_names o offered)) ∙ length-map (items_listed w wanted) (λ (i : NamedItem). i.name))

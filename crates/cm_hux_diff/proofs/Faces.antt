@@ -6,13 +6,12 @@ use Rattle.std.specs.Prelude.{filter, if◌then◌else◌, ◌&&◌, not}
 use Rattle.std.proofs.lemmas.Bool.{cases_Bool}
 use Rattle.std.proofs.lemmas.List.{drop_all}
 use Rattle.std.proofs.lemmas.Option.{slice_get_within}
-use Rattle.cm_types.specs.Signatures.{SignatureTy}
 use Rattle.cm_lemmas.proofs.Lists.{take_one, rest_from}
 use Rattle.cm_match_model.specs.Fitting.{NamedExport, candidates, fits, named_export, only}
 use Rattle.cm_match_model.specs.Ranges.{exports_named}
 use Rattle.cm_match_model.specs.declared.candidates.Candidate.{Candidate}
 use Rattle.cm_match_model.specs.declared.candidates.Candidate.TheVariants as candidate
-use Rattle.cm_hux_diff.specs.Facing.{greatest_from, hosted_from, is_greater, is_hosted}
+use Rattle.cm_hux_diff.specs.Facing.{greater_of, greatest_from, hosted_at, hosted_from}
 use Rattle.cm_hux_diff.proofs.Places.{length_taken}
 
 -- ---- exports in a table
@@ -52,15 +51,12 @@ fits_so e w c x h = elim (cases_Bool (fits w e.name)) [
     none_one : candidate.One c x ≡ candidate.None → ⊥
     none_one g = cc
 
-pub fits_once : (e : NamedExport) (w : List ℕ) (P : Type 0) → candidate.Several ≡ only (candidates (e ∷ []) w) → P
-fits_once e w P h = elim (cases_Bool (fits w e.name)) [
-  | inl y ↦ absurd (one (h ∙ only_one e w true y))
+pub fits_once : (e : NamedExport) (w : List ℕ) → candidate.Several ≡ only (candidates (e ∷ []) w) → true ≡ fits w e.name
+fits_once e w h = elim (cases_Bool (fits w e.name)) [
+  | inl y ↦ sym y
   | inr n ↦ absurd (none (h ∙ only_one e w false n))
 ]
   where
-    one : candidate.Several ≡ candidate.One e.component e.number → ⊥
-    one g = cc
-
     none : candidate.Several ≡ candidate.None → ⊥
     none g = cc
 
@@ -73,7 +69,7 @@ pub record Greatest (texts : List (List ℕ)) (wanted : List ℕ) (n : ℕ) (bes
 pub greatest_start : (texts : List (List ℕ)) (wanted : List ℕ) → Greatest texts wanted 0 None
 greatest_start texts wanted = record { is = refl }
 
-pub greatest_next : (texts : List (List ℕ)) (wanted : List ℕ) (n : ℕ) (best next : Option ℕ) (x : List ℕ) → n < length texts → x ≡ get_or texts n x → next ≡ (if fits wanted x && is_greater (option_and_then (slice_get texts) best) x then Some n else best) → Greatest texts wanted n best → Greatest texts wanted (n + 1) next
+pub greatest_next : (texts : List (List ℕ)) (wanted : List ℕ) (n : ℕ) (best next : Option ℕ) (x : List ℕ) → n < length texts → x ≡ get_or texts n x → next ≡ greater_of texts wanted best n x → Greatest texts wanted n best → Greatest texts wanted (n + 1) next
 greatest_next texts wanted n best next x lt at is g = record {
   is = ap (λ (o : Option ℕ). greatest_from texts wanted o (n + 1) (drop (n + 1) texts)) is
       ∙ (sym (ap (greatest_from texts wanted best n) (rest_from texts n x lt at)) ∙ g.is);
@@ -84,27 +80,24 @@ greatest_end texts wanted n best le g = sym (ap (greatest_from texts wanted best
 
 -- ---- the imports that are exported now
 
-pub record Hosted (old new : SignatureTy) (texts : List (List ℕ)) (n : ℕ) (out : List ℕ) : Type 0 where
-  pub is : out ++ hosted_from old new n (drop n texts) ≡ hosted_from old new 0 texts
+pub record Hosted (exports offered texts : List (List ℕ)) (n : ℕ) (out : List ℕ) : Type 0 where
+  pub is : out ++ hosted_from exports offered n (drop n texts) ≡ hosted_from exports offered 0 texts
 
-pub hosted_start : (old new : SignatureTy) (texts : List (List ℕ)) → Hosted old new texts 0 []
-hosted_start old new texts = record { is = refl }
+pub hosted_start : (exports offered texts : List (List ℕ)) → Hosted exports offered texts 0 []
+hosted_start exports offered texts = record { is = refl }
 
-step_at : (old new : SignatureTy) (n : ℕ) (x : List ℕ) (xs : List (List ℕ)) (b : Bool) → is_hosted old new x ≡ b → hosted_from old new n (x ∷ xs) ≡ (if b then n ∷ hosted_from old new (n + 1) xs else hosted_from old new (n + 1) xs)
-step_at old new n x xs b is = ap (λ (t : Bool). if t then n ∷ hosted_from old new (n + 1) xs else hosted_from old new (n + 1) xs) is
-
-pub hosted_one : (old new : SignatureTy) (texts : List (List ℕ)) (n : ℕ) (x : List ℕ) (out : List ℕ) → n < length texts → x ≡ get_or texts n x → is_hosted old new x ≡ true → Hosted old new texts n out → Hosted old new texts (n + 1) (out ++ n ∷ [])
-hosted_one old new texts n x out lt at is h = record {
-  is = append_assoc out (n ∷ []) (hosted_from old new (n + 1) (drop (n + 1) texts))
-      ∙ (sym (ap (λ (l : List ℕ). out ++ l) (step_at old new n x (drop (n + 1) texts) true is))
-      ∙ (sym (ap (λ (l : List (List ℕ)). out ++ hosted_from old new n l) (rest_from texts n x lt at)) ∙ h.is));
+pub hosted_next : (exports offered texts : List (List ℕ)) (n : ℕ) (x : List ℕ) (out next : List ℕ) → n < length texts → x ≡ get_or texts n x → next ≡ out ++ hosted_at exports offered n x → Hosted exports offered texts n out → Hosted exports offered texts (n + 1) next
+hosted_next exports offered texts n x out next lt at is h = record {
+  is = ap (λ (l : List ℕ). l ++ hosted_from exports offered (n + 1) (drop (n + 1) texts)) is
+      ∙ (append_assoc out (hosted_at exports offered n x) (hosted_from exports offered (n + 1) (drop (n + 1) texts))
+      ∙ (sym (ap (λ (l : List (List ℕ)). out ++ hosted_from exports offered n l) (rest_from texts n x lt at)) ∙ h.is));
 }
 
-pub hosted_none : (old new : SignatureTy) (texts : List (List ℕ)) (n : ℕ) (x : List ℕ) (out : List ℕ) → n < length texts → x ≡ get_or texts n x → is_hosted old new x ≡ false → Hosted old new texts n out → Hosted old new texts (n + 1) out
-hosted_none old new texts n x out lt at is h = record {
-  is = sym (ap (λ (l : List ℕ). out ++ l) (step_at old new n x (drop (n + 1) texts) false is))
-      ∙ (sym (ap (λ (l : List (List ℕ)). out ++ hosted_from old new n l) (rest_from texts n x lt at)) ∙ h.is);
-}
+pub hosted_end : (exports offered texts : List (List ℕ)) (n : ℕ) (out : List ℕ) → length texts ≤ n → Hosted exports offered texts n out → out ≡ hosted_from exports offered 0 texts
+hosted_end exports offered texts n out le h = sym (append-nil out) ∙ (sym (ap (λ (l : List (List ℕ)). out ++ hosted_from exports offered n l) (drop_all n texts le)) ∙ h.is)
 
-pub hosted_end : (old new : SignatureTy) (texts : List (List ℕ)) (n : ℕ) (out : List ℕ) → length texts ≤ n → Hosted old new texts n out → out ≡ hosted_from old new 0 texts
-hosted_end old new texts n out le h = sym (append-nil out) ∙ (sym (ap (λ (l : List (List ℕ)). out ++ hosted_from old new n l) (drop_all n texts le)) ∙ h.is)
+pub ruleset hosted_laws = (hosted_start, hosted_next, hosted_end)
+
+pub ruleset greatest_laws = (greatest_start, greatest_next, greatest_end)
+
+pub ruleset single_laws = (fits_not, fits_so, fits_once)

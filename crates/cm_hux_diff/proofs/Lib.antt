@@ -4,3 +4,4 @@ pub mod Faces
 pub mod Bindings
 pub mod Breaks
 pub mod Entries
+pub mod Numbers

@@ -7,9 +7,9 @@ use Rattle.std.specs.Option.{option_or}
 use Rattle.cm_types.specs.Signatures.{NamedExtern, SignatureTy}
 use Rattle.cm_types.specs.declared.resource.ResourceId.{ResourceId}
 use Rattle.cm_types_arena.specs.Replaced.{Standing, replaced, replaced_func}
-use Rattle.cm_hux_diff.specs.Facing.{host_face, hosted_from, names, user_face}
+use Rattle.cm_hux_diff.specs.Facing.{host_face, hosted_from, names}
 use Rattle.cm_hux_diff.specs.Held.{Held, nothing, several, sorts, funcs, types, resources, Entry}
-use Rattle.cm_hux_diff.specs.Held.{host_entries, user_entries}
+use Rattle.cm_hux_diff.specs.Held.{host_entries, used_face, user_entries}
 use Rattle.cm_hux_diff.specs.declared.breaking.Break.{Break}
 use Rattle.cm_hux_diff.specs.declared.breaking.BreakReason.{BreakReason}
 use Rattle.cm_hux_diff.specs.declared.breaking.BreakReason.TheVariants as reason
@@ -83,11 +83,12 @@ AreBreaks wanted offered (e ∷ es) bs =
 -- What the new one in place of the old one breaks, and what faces each import and export.
 pub record IsBroken (old new : SignatureTy) (b : Broken) : Type 0 where
   pub imports : b.imports.items ≡ map (host_face (names old.imports)) (names new.imports)
-  pub exports : b.exports.items ≡ map (user_face old new) (names old.exports)
+  pub exports : b.exports.items ≡ map (used_face old new) (names old.exports)
   pub hosts :
       AreBreaks (wanted_of_hosts old new) (marked 0) (host_entries old.imports new.imports)
       b.hosts.items
   pub users :
       AreBreaks (wanted_by_users old new) (offered_to_users old new) (user_entries old new)
       b.users.items
-  pub hosted : b.hosted.items ≡ hosted_from old new 0 (names old.imports)
+  pub hosted : b.hosted.items
+      ≡ hosted_from (names old.exports) (names new.exports) 0 (names old.imports)

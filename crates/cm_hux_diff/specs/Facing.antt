@@ -1,8 +1,8 @@
 -- Which imports and exports of two signatures face each other (how components are linked is this
 -- project's own choice: what fits a name is `fits` of cm_match_model).
-use Rattle.std.specs.Prelude.{ℕ, ◌+◌, Bool, true, false, ◌&&◌, ◌||◌, not, List, [], ◌∷◌, map}
+use Rattle.std.specs.Prelude.{ℕ, ◌+◌, Bool, true, false, ◌&&◌, ◌||◌, not, List, [], ◌∷◌, ◌++◌, map}
 use Rattle.std.specs.Prelude.{if◌then◌else◌, Option, Some, None, option_and_then, slice_get}
-use Rattle.cm_types.specs.Signatures.{NamedExtern, SignatureTy}
+use Rattle.cm_types.specs.Signatures.{NamedExtern}
 use Rattle.cm_match_model.specs.Fitting.{candidates, fits, only}
 use Rattle.cm_match_model.specs.Ranges.{exports_named}
 use Rattle.cm_match_model.specs.declared.candidates.Candidate.{Candidate}
@@ -33,29 +33,32 @@ face_of candidate.Several = face.Several
 
 -- ---- users
 
--- Nobody can import an export of the old one where two of the old one's exports fit, or where its
--- host exports one that does, because the old one imports it.
-abbrev pub is_left_out : SignatureTy → List ℕ → Bool
-is_left_out old name =
-    is_several (found (names old.exports) name) || not (is_none (found (names old.imports) name))
+-- Nobody can import an export of the old one where two of its exports fit, or where its host exports
+-- one that does, because the old one imports it.
+abbrev pub is_left_out : List (List ℕ) → List (List ℕ) → List ℕ → Bool
+is_left_out imports exports name =
+    is_several (found exports name) || not (is_none (found imports name))
 
--- Who imports an export of the old one by its name wants the only export of the new one that fits.
-abbrev pub user_face : SignatureTy → SignatureTy → List ℕ → Face
-user_face old new name =
-    if is_left_out old name then face.LeftOut else face_of (found (names new.exports) name)
+-- Who imports an export of the old one, with these imports and exports, by its name wants the only
+-- one of those that the new one offers that fits.
+abbrev pub user_face : List (List ℕ) → List (List ℕ) → List (List ℕ) → List ℕ → Face
+user_face imports exports offered name =
+    if is_left_out imports exports name then face.LeftOut else face_of (found offered name)
 
 -- An import of the old one, which its users import from its host too, is exported by the new one
 -- now, and was not by the old one: both fit it then.
-abbrev pub is_hosted : SignatureTy → SignatureTy → List ℕ → Bool
-is_hosted old new name =
-    not (is_none (found (names new.exports) name)) && is_none (found (names old.exports) name)
+abbrev pub is_hosted : List (List ℕ) → List (List ℕ) → List ℕ → Bool
+is_hosted exports offered name =
+    not (is_none (found offered name)) && is_none (found exports name)
 
--- the places of those imports, counted from n on
-abbrev pub hosted_from : SignatureTy → SignatureTy → ℕ → List (List ℕ) → List ℕ
-hosted_from old new n [] = []
-hosted_from old new n (x ∷ xs) =
-    if is_hosted old new x then n ∷ hosted_from old new (n + 1) xs
-    else hosted_from old new (n + 1) xs
+-- the place of such an import, and of all of these, counted from n on
+abbrev pub hosted_at : List (List ℕ) → List (List ℕ) → ℕ → List ℕ → List ℕ
+hosted_at exports offered n x = if is_hosted exports offered x then n ∷ [] else []
+
+abbrev pub hosted_from : List (List ℕ) → List (List ℕ) → ℕ → List (List ℕ) → List ℕ
+hosted_from exports offered n [] = []
+hosted_from exports offered n (x ∷ xs) =
+    hosted_at exports offered n x ++ hosted_from exports offered (n + 1) xs
 
 -- ---- hosts
 

@@ -95,6 +95,11 @@ entries_from facing offered n (x ∷ xs) =
 abbrev pub host_entries : List NamedExtern → List NamedExtern → List Entry
 host_entries served imports = entries_from (host_face (names served)) served 0 imports
 
+-- what faces the exports of the old one in the new one
+abbrev pub used_face : SignatureTy → SignatureTy → List ℕ → Face
+used_face old new =
+    user_face (names old.imports) (names old.exports) (names new.exports)
+
 -- the exports of the old one, of the new one
 abbrev pub user_entries : SignatureTy → SignatureTy → List Entry
-user_entries old new = entries_from (user_face old new) new.exports 0 old.exports
+user_entries old new = entries_from (used_face old new) new.exports 0 old.exports

@@ -1,17 +1,18 @@
 -- What the code holds against each other, among the types of two arenas; and its tables.
-use Rattle.std.specs.Prelude.{◌≡◌, ℕ, List, Option, Some, map, option_and_then}
+use Rattle.std.specs.Prelude.{◌≡◌, ℕ, List, [], Option, Some, map, option_and_then}
 use Rattle.std.specs.Prelude.{slice_get, unwrap_or}
 use Rattle.std.specs.BTreeMap.{get}
-use Rattle.std.specs.Option.{option_map}
+use Rattle.std.specs.Option.{option_map, option_map_or}
 use Rattle.std.specs.Ordering.{nat_cmp}
 use Rattle.cm_types.specs.declared.resource.ResourceId.{ResourceId}
 use Rattle.cm_types_arena.specs.Replaced.{Standing}
 use Rattle.cm_types_arena.specs.Instances.{desc_of, replaced_desc}
-use Rattle.cm_types_arena.specs.Listed.{brought_items, by_of, items_listed}
+use Rattle.cm_types_arena.specs.Listed.{brought_items, by_of, externs_listed, items_listed}
 use Rattle.cm_types_arena.specs.Placed.{moved_by}
 use Rattle.cm_types_arena.specs.Places.{types_of, funcs_of}
 use Rattle.cm_types_arena.specs.declared.instances.ItemDesc.{ItemDesc}
 use Rattle.cm_types_arena.specs.declared.moves.Move.{Move}
+use Rattle.cm_types_arena.specs.declared.named_externs.Externs.{Externs}
 use Rattle.cm_types_arena.specs.declared.named_externs.Items.{Items}
 use Rattle.cm_types_arena.specs.declared.types.Types.{Types}
 use Rattle.cm_types.specs.Signatures.{ItemTy, NamedExtern, SignatureTy}
@@ -19,9 +20,10 @@ use Rattle.cm_types_numbers.specs.Moved.{brought_func, brought_type}
 use Rattle.cm_types_numbers.specs.Numbering.{numbering}
 use Rattle.cm_types_numbers.specs.PlacedTables.{KnowsPlaced}
 use Rattle.cm_hux_diff.specs.Breaking.{at_host, marked}
-use Rattle.cm_hux_diff.specs.Facing.{host_face, names}
+use Rattle.cm_hux_diff.specs.Facing.{host_face, names, user_face}
 use Rattle.cm_hux_diff.specs.Held as all
 use Rattle.cm_hux_diff.specs.declared.links.Links.{Links}
+use Rattle.cm_hux_diff.specs.declared.facing.Face.{Face}
 use Rattle.cm_hux_diff.specs.declared.held.Entry.{Entry}
 use Rattle.cm_hux_diff.specs.declared.held.Held.{Held}
 use Rattle.cm_hux_diff.specs.declared.held.TwoInstances.{TwoInstances}
@@ -63,6 +65,12 @@ abbrev pub instance_entries : Types → Types → TwoInstances → List all.Entr
 instance_entries w o two =
     all.item_entries two.place (brought_items o two.offered) 0 (brought_items w two.wanted)
 
+-- what is held of what is wanted at a place, given what faces it
+abbrev pub entries_at : Types → Types → ℕ → Externs → Externs → Face → List all.Entry
+entries_at w o place wanted offered face =
+    option_map_or (λ x. all.face_entries place (externs_listed o offered) x.desc face)
+    (slice_get (externs_listed w wanted) place) []
+
 -- what a table has for the resource of a number
 abbrev pub bound_in : Bound → ℕ → Option ResourceId
 bound_in table n = get nat_cmp table.numbers n
@@ -77,6 +85,11 @@ pub record AreKnown (wanted offered : Side) (tables : Tables) : Type 0 where
       KnowsPlaced (numbering tables.numbers) (standing_of wanted) wanted.types.now tables.wanted
   pub of_offered :
       KnowsPlaced (numbering tables.numbers) (standing_of offered) offered.types.now tables.offered
+
+-- what faces an export of the old one, by tables
+abbrev pub faces_in : Links → List ℕ → Face
+faces_in links =
+    user_face links.imports.names.items links.exports.names.items links.offers.names.items
 
 -- The names of the imports and exports of the old one, and of the exports of the new one, are in
 -- these tables.

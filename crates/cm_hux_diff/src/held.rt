@@ -144,12 +144,7 @@ fn item_found(items: Items<'_>, place: Option<usize>) -> Option<ItemDesc>
 }
 
 /// An item that is wanted, against the one that stands at a place, if one does.
-fn item_held(
-    wanted: ItemDesc,
-    by: Option<Move>,
-    offered: Items<'_>,
-    place: Option<usize>,
-) -> Held
+fn item_held(wanted: ItemDesc, by: Option<Move>, offered: Items<'_>, place: Option<usize>) -> Held
     ensures { (w o : Types) → held_view w o result
         ≡ desc_held (brought_desc w by wanted) (item_brought o offered.entry place) }
 {
@@ -169,11 +164,7 @@ pub(crate) struct TwoInstances<'a> {
 
 /// The item of a number, if there is one, against the other of its name, which stands at a place if
 /// there is one.
-pub(crate) fn entry_at(
-    two: TwoInstances<'_>,
-    number: usize,
-    found: Option<usize>,
-) -> Option<Entry>
+pub(crate) fn entry_at(two: TwoInstances<'_>, number: usize, found: Option<usize>) -> Option<Entry>
     requires { (t u : Types) → found ≡ option_and_then
         (place_in (item_names u two.offered))
         (slice_get (item_names t two.wanted) number) }

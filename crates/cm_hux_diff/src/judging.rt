@@ -1,9 +1,11 @@
 //! Whether what is offered serves what is wanted.
 
-ghost use Rattle.std.specs.Prelude.{◌≡◌, ◌↔◌, IfOk, IsTrue, OnOk, map};
+ghost use Rattle.std.specs.Prelude.{◌≡◌, ◌↔◌, ◌++◌, ◌∷◌, [], IfOk, IsTrue, List, OnOk};
+ghost use Rattle.std.specs.Prelude.{map};
 ghost use Rattle.cm_types_arena.specs.Replaced.{replaced, replaced_func};
 ghost use Rattle.cm_types_numbers.specs.Moved.{brought_func, brought_type};
 ghost use Rattle.cm_hux_diff.specs.Breaking.{AreBreaks, Serves};
+ghost use Rattle.cm_hux_diff.specs.Held.{Entry as Entries};
 ghost use Rattle.cm_hux_diff.specs.Views.{AreKnown, entry_view, held_view, standing_of};
 ghost use Rattle.cm_hux_diff.specs.declared.bound.Side.{Side as Sided};
 
@@ -114,12 +116,33 @@ impl Tables {
             Held::Sorts => Ok(false),
             Held::Funcs(f, g) => self.same_funcs(alloc, wanted, f, offered, g),
             Held::Types(x, y) => self.same_types(alloc, wanted, x, offered, y),
-            Held::Resources(a, b) => Ok(same_resource(
-                wanted.replace(a),
-                offered.replace(b),
-            )),
+            Held::Resources(a, b) => Ok(same_resource(wanted.replace(a), offered.replace(b))),
         }
     }
+}
+
+/// Adds what does not serve.
+fn judge(
+    alloc: Global,
+    tables: &mut Tables,
+    wanted: &Side<'_>,
+    offered: &Side<'_>,
+    entry: Entry,
+    breaks: &mut Vec<Break>,
+) -> Result<(), AllocError>
+    requires { AreKnown wanted.now offered.now tables.old }
+    ensures breaks { OnOk result ((es : List Entries)
+        → AreBreaks (standing_of wanted.now) (standing_of offered.now) es breaks.old.items
+        → AreBreaks (standing_of wanted.now) (standing_of offered.now)
+        (es ++ entry_view wanted.now.types.now offered.now.types.now entry ∷ [])
+        breaks.new.items) }
+    ensures known { OnOk result (AreKnown wanted.now offered.now tables.new) }
+{
+    if tables.serves(alloc, wanted, offered, entry.held)? {
+        return Ok(());
+    }
+    breaks.push(entry.as_break())?;
+    Ok(())
 }
 
 /// All that does not serve, in order. Refused only where there is no memory.
@@ -131,14 +154,13 @@ pub(crate) fn breaks_of(
 ) -> Result<Vec<Break>, AllocError>
     ensures { IfOk result (λ breaks. AreBreaks (standing_of wanted.now)
         (standing_of offered.now)
-        (map (entry_view wanted.now.types.now offered.now.types.now) entries.now) breaks.items) }
+        (map (entry_view wanted.now.types.now offered.now.types.now) entries.now)
+        breaks.items) }
 {
     let mut tables = Tables::new(alloc);
     let mut breaks = Vec::new(alloc);
     for entry in entries {
-        if !tables.serves(alloc, wanted, offered, entry.held)? {
-            breaks.push(entry.as_break())?;
-        }
+        judge(alloc, &mut tables, wanted, offered, *entry, &mut breaks)?;
     }
     Ok(breaks)
 }

@@ -1,13 +1,12 @@
 //! Which imports and exports of two signatures face each other.
 
-ghost use Rattle.std.specs.Prelude.{◌≡◌, IfOk, None, map, slice_index_or};
-ghost use Rattle.cm_types.specs.Signatures.{SignatureTy};
+ghost use Rattle.std.specs.Prelude.{◌≡◌, ◌++◌, IfOk, None, OnOk, map, slice_index_or};
 ghost use Rattle.cm_types_arena.specs.Signatures.{signature_of};
 ghost use Rattle.cm_types_arena.specs.declared.types.Types.{Types};
 ghost use Rattle.cm_wit_conforms.specs.Places.{extern_names};
-ghost use Rattle.cm_hux_diff.specs.Facing.{host_face, hosted_from, is_hosted, is_left_out, names};
-ghost use Rattle.cm_hux_diff.specs.Facing.{user_face};
-ghost use Rattle.cm_hux_diff.specs.Views.{LinksOf};
+ghost use Rattle.cm_hux_diff.specs.Facing.{host_face, hosted_at, hosted_from, is_hosted};
+ghost use Rattle.cm_hux_diff.specs.Facing.{is_left_out};
+ghost use Rattle.cm_hux_diff.specs.Views.{LinksOf, faces_in};
 
 use crate::facing::Face;
 use crate::names::names_of;
@@ -30,6 +29,7 @@ fn place_at(places: &[Option<usize>], place: usize) -> Option<usize>
 
 /// What of a host's exports, which are these imports of the old one, faces each import. Refused
 /// only where there is no memory.
+#[tactic(auto, using(cm_wit_conforms::proofs::MapLaws::plain_laws))]
 pub(crate) fn host_faces(
     alloc: Global,
     served: &Externs,
@@ -70,8 +70,8 @@ impl Links {
 
     /// Whether nobody can import an export of the old one by its name.
     fn is_left_out(&self, alloc: Global, name: &ExternName) -> Result<bool, AllocError>
-        ensures { IfOk result (λ b. (old new : SignatureTy) → LinksOf old new self.now
-            → b ≡ is_left_out old name.now) }
+        ensures { IfOk result (λ b. b ≡ is_left_out self.now.imports.names.items
+            self.now.exports.names.items name.now) }
     {
         match self.exports.found(alloc, name)? {
             Candidate::Several => return Ok(true),
@@ -87,8 +87,7 @@ impl Links {
 
     /// What faces an export of the old one.
     fn user_face(&self, alloc: Global, name: &ExternName) -> Result<Face, AllocError>
-        ensures { IfOk result (λ f. (old new : SignatureTy) → LinksOf old new self.now
-            → f ≡ user_face old new name.now) }
+        ensures { IfOk result (λ f. f ≡ faces_in self.now name.now) }
     {
         if self.is_left_out(alloc, name)? {
             return Ok(Face::LeftOut);
@@ -97,9 +96,10 @@ impl Links {
     }
 
     /// What faces each export of the old one. Refused only where there is no memory.
+    #[tactic(auto, using(cm_wit_conforms::proofs::MapLaws::plain_laws))]
     pub(crate) fn user_faces(&self, alloc: Global) -> Result<Vec<Face>, AllocError>
-        ensures { IfOk result (λ v. (old new : SignatureTy) → LinksOf old new self.now
-            → v.items ≡ map (user_face old new) (names old.exports)) }
+        ensures { IfOk result (λ v. v.items
+            ≡ map (faces_in self.now) self.now.exports.names.items) }
     {
         let mut faces = Vec::with_capacity(alloc, self.exports.names.len())?;
         for name in &self.exports.names {
@@ -110,8 +110,8 @@ impl Links {
 
     /// Whether an import of the old one is exported by the new one, and not by the old one.
     fn is_hosted(&self, alloc: Global, name: &ExternName) -> Result<bool, AllocError>
-        ensures { IfOk result (λ b. (old new : SignatureTy) → LinksOf old new self.now
-            → b ≡ is_hosted old new name.now) }
+        ensures { IfOk result (λ b. b ≡ is_hosted self.now.exports.names.items
+            self.now.offers.names.items name.now) }
     {
         match self.offers.found(alloc, name)? {
             Candidate::None => return Ok(false),
@@ -125,17 +125,35 @@ impl Links {
         }
     }
 
+    /// Adds the place of an import of the old one, if it is exported by the new one alone.
+    fn add_hosted(
+        &self,
+        alloc: Global,
+        places: &mut Vec<usize>,
+        place: usize,
+        name: &ExternName,
+    ) -> Result<(), AllocError>
+        ensures { OnOk result (places.new.items ≡ places.old.items
+            ++ hosted_at self.now.exports.names.items self.now.offers.names.items place
+            name.now) }
+    {
+        if !self.is_hosted(alloc, name)? {
+            return Ok(());
+        }
+        places.push(place)?;
+        Ok(())
+    }
+
     /// The places of the imports of the old one that the new one exports, and the old one does not.
     /// Refused only where there is no memory.
+    #[tactic(auto, using(crate::proofs::Faces::hosted_laws))]
     pub(crate) fn hosted(&self, alloc: Global) -> Result<Vec<usize>, AllocError>
-        ensures { IfOk result (λ v. (old new : SignatureTy) → LinksOf old new self.now
-            → v.items ≡ hosted_from old new 0 (names old.imports)) }
+        ensures { IfOk result (λ v. v.items ≡ hosted_from self.now.exports.names.items
+            self.now.offers.names.items 0 self.now.imports.names.items) }
     {
         let mut places = Vec::new(alloc);
         for (place, name) in self.imports.names.iter().enumerate() {
-            if self.is_hosted(alloc, name)? {
-                places.push(place)?;
-            }
+            self.add_hosted(alloc, &mut places, place, name)?;
         }
         Ok(places)
     }

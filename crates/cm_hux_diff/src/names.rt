@@ -1,9 +1,11 @@
 //! The names of imports and exports.
 
-ghost use Rattle.std.specs.Prelude.{◌≡◌, IfOk};
+ghost use Rattle.std.specs.Prelude.{◌≡◌, ◌++◌, IfOk, OnOk, option_to_list, slice_get};
+ghost use Rattle.std.specs.Option.{option_map};
 ghost use Rattle.std.specs.String.{string_bytes};
 ghost use Rattle.cm_types.specs.ExternNames.{name_spelling};
 ghost use Rattle.cm_types.specs.ExternNameForms.{form_tree};
+ghost use Rattle.cm_types_arena.specs.Listed.{externs_listed};
 ghost use Rattle.cm_types_arena.specs.declared.types.Types.{Types};
 ghost use Rattle.cm_wit_conforms.specs.Places.{extern_names};
 
@@ -52,15 +54,33 @@ fn name_of(alloc: Global, form: ExternNameForm<'_>) -> Result<ExternName, AllocE
     }
 }
 
+/// Adds the name of the import or export at a place, if there is one.
+fn add_name(
+    alloc: Global,
+    names: &mut Vec<ExternName>,
+    externs: &Externs,
+    place: usize,
+) -> Result<(), AllocError>
+    ensures { OnOk result ((t : Types) → names.new.items ≡ names.old.items
+        ++ option_to_list (option_map (λ e. e.name)
+        (slice_get (externs_listed t externs.now) place))) }
+{
+    let Some(each) = externs.at(place) else {
+        return Ok(());
+    };
+    let name = name_of(alloc, each.name)?;
+    names.push(name)?;
+    Ok(())
+}
+
 /// The names of imports or exports, in order. Refused only where there is no memory.
+#[tactic(auto, using(crate::proofs::Places::names_end))]
 pub(crate) fn names_of(alloc: Global, externs: &Externs) -> Result<Vec<ExternName>, AllocError>
     ensures { IfOk result (λ v. (t : Types) → v.items ≡ extern_names t externs.now) }
 {
     let mut names = Vec::with_capacity(alloc, externs.len())?;
     for place in 0..externs.len() {
-        if let Some(each) = externs.at(place) {
-            names.push(name_of(alloc, each.name)?)?;
-        }
+        add_name(alloc, &mut names, externs, place)?;
     }
     Ok(names)
 }

@@ -1,13 +1,13 @@
 //! Imports or exports by their names.
 
-ghost use Rattle.std.specs.Prelude.{◌≡◌, ◌&&◌, IfOk, None, option_and_then, slice_get};
+ghost use Rattle.std.specs.Prelude.{◌≡◌, IfOk, None, option_and_then, slice_get};
 ghost use Rattle.cm_types_arena.specs.declared.types.Types.{Types};
 ghost use Rattle.cm_match_model.specs.Fitting.{fits};
 ghost use Rattle.cm_match_model.specs.Ranges.{exports_named};
 ghost use Rattle.cm_match_serving.specs.ExportTables.{HasExports};
 ghost use Rattle.cm_wit_conforms.specs.Places.{extern_names, place_in};
-ghost use Rattle.cm_hux_diff.specs.Facing.{face_of, found, greatest_face, greatest_from, host_face};
-ghost use Rattle.cm_hux_diff.specs.Facing.{is_greater};
+ghost use Rattle.cm_hux_diff.specs.Facing.{face_of, found, greater_of, greatest_face, greatest_from};
+ghost use Rattle.cm_hux_diff.specs.Facing.{host_face, is_greater};
 
 use crate::facing::Face;
 use crate::names::names_of;
@@ -36,6 +36,7 @@ fn table_of(alloc: Global, names: &[ExternName]) -> Result<Exports, AllocError>
 }
 
 /// Whether what has a name fits what is wanted by another. Refused only where there is no memory.
+#[tactic(auto, using(crate::proofs::Faces::single_laws))]
 fn fits(alloc: Global, wanted: &ExternName, name: &ExternName) -> Result<bool, AllocError>
     ensures { IfOk result (λ b. b ≡ fits wanted.now name.now) }
 {
@@ -95,34 +96,37 @@ impl Offers {
         }
     }
 
-    /// Whether a name fits what is wanted, and is greater than the greatest so far that does.
-    fn is_better(
+    /// The greater of the greatest so far and a name at a place, if that fits what is wanted.
+    fn greater_of(
         &self,
         alloc: Global,
         wanted: &ExternName,
         best: Option<usize>,
+        place: usize,
         name: &ExternName,
-    ) -> Result<bool, AllocError>
-        ensures { IfOk result (λ b. b ≡ (fits wanted.now name.now
-            && is_greater (option_and_then (slice_get self.now.names.items) best) name.now)) }
+    ) -> Result<Option<usize>, AllocError>
+        ensures { IfOk result (λ next. next
+            ≡ greater_of self.now.names.items wanted.now best place name.now) }
     {
-        if fits(alloc, wanted, name)? {
-            self.is_greater(alloc, best, name)
+        if !fits(alloc, wanted, name)? {
+            return Ok(best);
+        }
+        if self.is_greater(alloc, best, name)? {
+            Ok(Some(place))
         } else {
-            Ok(false)
+            Ok(best)
         }
     }
 
     /// The place of the greatest that fits a name. It costs time linear in all of them.
+    #[tactic(auto, using(crate::proofs::Faces::greatest_laws))]
     fn greatest(&self, alloc: Global, wanted: &ExternName) -> Result<Option<usize>, AllocError>
         ensures { IfOk result (λ best. best
             ≡ greatest_from self.now.names.items wanted.now None 0 self.now.names.items) }
     {
         let mut best = None;
         for (place, name) in self.names.iter().enumerate() {
-            if self.is_better(alloc, wanted, best, name)? {
-                best = Some(place);
-            }
+            best = self.greater_of(alloc, wanted, best, place, name)?;
         }
         Ok(best)
     }

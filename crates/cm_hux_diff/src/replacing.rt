@@ -4,8 +4,8 @@ ghost use Rattle.std.specs.Prelude.{◌≡◌, IfOk, map};
 ghost use Rattle.cm_types_arena.specs.Signatures.{exports_in, imports_in, signature_of};
 ghost use Rattle.cm_hux_diff.specs.Breaking.{AreBreaks, IsBroken, marked, offered_to_users};
 ghost use Rattle.cm_hux_diff.specs.Breaking.{wanted_by_users, wanted_of_hosts};
-ghost use Rattle.cm_hux_diff.specs.Held.{host_entries, user_entries};
-ghost use Rattle.cm_hux_diff.specs.Facing.{names, user_face};
+ghost use Rattle.cm_hux_diff.specs.Held.{host_entries, used_face, user_entries};
+ghost use Rattle.cm_hux_diff.specs.Facing.{names};
 ghost use Rattle.cm_hux_diff.specs.Views.{IsAtHost};
 
 use crate::bound::{Bound, Side};
@@ -107,7 +107,7 @@ fn users_broken(
         old.now.types hosts.now }
     requires given { IsAtHost (imports_in old.now) (imports_in old.now) old.now.types
         old.now.types given }
-    requires faces { faces.now ≡ map (user_face (signature_of old.now) (signature_of new.now))
+    requires faces { faces.now ≡ map (used_face (signature_of old.now) (signature_of new.now))
         (names (exports_in old.now)) }
     ensures { IfOk result (λ breaks. AreBreaks
         (wanted_by_users (signature_of old.now) (signature_of new.now))

@@ -178,7 +178,13 @@ impl<'a> Telling<'a> {
             match facing.faces.get(place) {
                 Some(Face::Nothing) => self.tell_missing(facing.side, block.name, &interfaces)?,
                 Some(Face::Several) => {
-                    self.add(facing.side, block.name, None, Change::Several, facing.side.broken())?
+                    self.add(
+                        facing.side,
+                        block.name,
+                        None,
+                        Change::Several,
+                        facing.side.broken(),
+                    )?
                 }
                 Some(Face::One(at)) => {
                     if let Some(offered) = facing.offered.get(*at) {
@@ -227,14 +233,16 @@ impl<'a> Telling<'a> {
     }
 
     /// Tells that imports are exported too.
-    fn tell_exported(
-        &mut self,
-        imports: &[Block<'a>],
-        places: &[usize],
-    ) -> Result<(), AllocError> {
+    fn tell_exported(&mut self, imports: &[Block<'a>], places: &[usize]) -> Result<(), AllocError> {
         for place in places {
             if let Some(block) = imports.get(*place) {
-                self.add(Side::Import, block.name, None, Change::Exported, Effect::Users)?;
+                self.add(
+                    Side::Import,
+                    block.name,
+                    None,
+                    Change::Exported,
+                    Effect::Users,
+                )?;
             }
         }
         Ok(())
@@ -254,7 +262,13 @@ impl<'a> Telling<'a> {
                 Side::Export => Effect::Harmless,
                 Side::Import => Effect::MayClash,
             };
-            self.add(side, old.name, None, Change::Renamed { is: new.name }, effect)?;
+            self.add(
+                side,
+                old.name,
+                None,
+                Change::Renamed { is: new.name },
+                effect,
+            )?;
         }
         let items = items_of(self.alloc, offered)?;
         let mut found = Vec::new(self.alloc);

@@ -1,14 +1,13 @@
 //! All that is held, in order.
 
 ghost use Rattle.std.specs.Prelude.{◌≡◌, ◌++◌, IfOk, List, OnOk, ℕ, map, option_and_then};
-ghost use Rattle.std.specs.Prelude.{slice_get};
-ghost use Rattle.std.specs.Option.{option_map};
+ghost use Rattle.std.specs.Prelude.{option_to_list, slice_get};
 ghost use Rattle.cm_types_arena.specs.Listed.{desc_in, externs_listed};
 ghost use Rattle.cm_types_arena.specs.declared.types.Types.{Types};
 ghost use Rattle.cm_wit_conforms.specs.Places.{extern_names, item_names, place_in};
-ghost use Rattle.cm_hux_diff.specs.Facing.{names};
 ghost use Rattle.cm_hux_diff.specs.Held.{entries_from, face_entries, two_entries, whole};
-ghost use Rattle.cm_hux_diff.specs.Views.{entry_view, held_view, instance_entries};
+ghost use Rattle.cm_hux_diff.specs.Views.{entries_at, entry_view, held_view};
+ghost use Rattle.cm_hux_diff.specs.Views.{instance_entries};
 ghost use Rattle.cm_hux_diff.specs.declared.facing.Face.{Face as Faced};
 
 use crate::facing::Face;
@@ -38,6 +37,28 @@ impl Walk {
         Ok(())
     }
 
+    /// Adds the item of a number, if there is one, against that of its name, which stands at the
+    /// place that is given.
+    fn add_item(
+        &mut self,
+        two: TwoInstances<'_>,
+        number: usize,
+        found: Option<usize>,
+    ) -> Result<(), AllocError>
+        requires { (t u : Types) → found ≡ option_and_then
+            (place_in (item_names u two.offered))
+            (slice_get (item_names t two.wanted) number) }
+        ensures { OnOk result ((w o : Types) → map (entry_view w o) self.new.entries.items
+            ≡ map (entry_view w o) self.old.entries.items
+            ++ option_to_list (slice_get (instance_entries w o two.entry) number)) }
+    {
+        let Some(entry) = entry_at(two, number, found) else {
+            return Ok(());
+        };
+        self.entries.push(entry)?;
+        Ok(())
+    }
+
     /// Adds the items of an instance, each against that of its name, which stands at the place that
     /// is given.
     fn add_placed(
@@ -52,9 +73,7 @@ impl Walk {
             ++ instance_entries w o two.entry) }
     {
         for (number, found) in places.iter().enumerate() {
-            if let Some(entry) = entry_at(two, number, *found) {
-                self.entries.push(entry)?;
-            }
+            self.add_item(two, number, *found)?;
         }
         Ok(())
     }
@@ -120,6 +139,25 @@ impl Walk {
             None => self.add_whole(place, Held::Nothing),
         }
     }
+
+    /// Adds what is wanted at a place, if something is, against what faces it.
+    fn add_extern(
+        &mut self,
+        alloc: Global,
+        place: usize,
+        wanted: &Externs,
+        offered: &Externs,
+        face: Face,
+    ) -> Result<(), AllocError>
+        ensures { OnOk result ((w o : Types) → map (entry_view w o) self.new.entries.items
+            ≡ map (entry_view w o) self.old.entries.items
+            ++ entries_at w o place wanted.now offered.now face) }
+    {
+        match wanted.at(place) {
+            Some(each) => self.add_facing(alloc, place, each.desc, offered, face),
+            None => Ok(()),
+        }
+    }
 }
 
 /// All that is wanted, each against what faces it, in order. Refused only where there is no memory.
@@ -138,9 +176,7 @@ pub(crate) fn entries_of(
         entries: Vec::new(alloc),
     };
     for (place, face) in faces.iter().enumerate() {
-        if let Some(each) = wanted.at(place) {
-            walk.add_facing(alloc, place, each.desc, offered, *face)?;
-        }
+        walk.add_extern(alloc, place, wanted, offered, *face)?;
     }
     Ok(walk.entries)
 }
