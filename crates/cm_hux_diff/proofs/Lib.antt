@@ -5,3 +5,4 @@ pub mod Bindings
 pub mod Breaks
 pub mod Entries
 pub mod Numbers
+pub mod Held

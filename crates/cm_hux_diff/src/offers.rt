@@ -22,7 +22,7 @@ use std::alloc::{AllocError, Global};
 pub(crate) struct Offers {
     pub(crate) names: Vec<ExternName>,
     table: Exports,
-    ghost told: { HasExports table (exports_named 0 names.items) },
+    ghost told: { ∥ HasExports table (exports_named 0 names.items) ∥₁ },
 }
 
 fn table_of(alloc: Global, names: &[ExternName]) -> Result<Exports, AllocError>

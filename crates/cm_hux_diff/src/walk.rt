@@ -98,7 +98,7 @@ impl Walk {
     ) -> Result<(), AllocError>
         ensures { OnOk result ((w o : Types) → map (entry_view w o) self.new.entries.items
             ≡ map (entry_view w o) self.old.entries.items
-            ++ two_entries place (desc_in w wanted) (desc_in o offered)) }
+            ++ two_entries place (desc_in w wanted.entry) (desc_in o offered.entry)) }
     {
         match (wanted, offered) {
             (Desc::Func(f), Desc::Func(g)) => self.add_whole(place, two_funcs(f, g)),
@@ -126,7 +126,7 @@ impl Walk {
     ) -> Result<(), AllocError>
         ensures { OnOk result ((w o : Types) → map (entry_view w o) self.new.entries.items
             ≡ map (entry_view w o) self.old.entries.items
-            ++ face_entries place (externs_listed o offered.now) (desc_in w wanted) face) }
+            ++ face_entries place (externs_listed o offered.now) (desc_in w wanted.entry) face) }
     {
         let at = match face {
             Face::LeftOut => return Ok(()),
