@@ -1,5 +1,5 @@
 -- What does not serve, entry by entry.
-use Rattle.std.proofs.Common.{◌≡◌, List, [], ◌∷◌, ◌++◌, ◌⊎◌, inl, inr, refl, sym, ap, ◌∙◌}
+use Rattle.std.proofs.Common.{◌≡◌, ◌↔◌, Bool, true, false, IsTrue, List, [], ◌∷◌, ◌++◌, inl, inr, refl, sym, ap, ◌∙◌}
 use Rattle.cm_types_arena.specs.Replaced.{Standing}
 use Rattle.cm_hux_diff.specs.Breaking.{AreBreaks, Serves, break_of}
 use Rattle.cm_hux_diff.specs.Held.{Entry}
@@ -14,3 +14,13 @@ pub breaks_more : (w o : Standing) (es : List Entry) (e : Entry) (bs : List Brea
 breaks_more w o [] e bs are unfit = inr (unfit, [], ap (λ (l : List Break). l ++ break_of e ∷ []) are, refl)
 breaks_more w o (x ∷ es) e bs (inl h) unfit = inl (h.0, breaks_more w o es e bs h.1 unfit)
 breaks_more w o (x ∷ es) e bs (inr h) unfit = inr (h.0, h.1 ++ break_of e ∷ [], ap (λ (l : List Break). l ++ break_of e ∷ []) h.2, breaks_more w o es e h.1 h.3 unfit)
+
+-- what a test tells
+pub told_true : (b : Bool) (P : Type 0) → IsTrue b ↔ P → b ≡ true → P
+told_true b P h e = h.0 e
+
+pub told_false : (b : Bool) (P : Type 0) → IsTrue b ↔ P → b ≡ false → ¬ P
+told_false b P h e p = true_not (sym (h.1 p) ∙ e)
+  where
+    true_not : true ≡ false → ⊥
+    true_not e = cc

@@ -99,5 +99,3 @@ hosted_end exports offered texts n out le h = sym (append-nil out) ∙ (sym (ap 
 pub ruleset hosted_laws = (hosted_start, hosted_next, hosted_end)
 
 pub ruleset greatest_laws = (greatest_start, greatest_next, greatest_end)
-
-pub ruleset single_laws = (fits_not, fits_so, fits_once)

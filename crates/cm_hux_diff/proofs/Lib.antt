@@ -6,3 +6,4 @@ pub mod Breaks
 pub mod Entries
 pub mod Numbers
 pub mod Held
+pub mod Standings

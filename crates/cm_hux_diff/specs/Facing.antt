@@ -33,8 +33,8 @@ face_of candidate.Several = face.Several
 
 -- ---- users
 
--- Nobody can import an export of the old one where two of its exports fit, or where its host exports
--- one that does, because the old one imports it.
+-- Nobody can import an export of the old one where two of its exports fit, or where its host
+-- exports one that does, because the old one imports it.
 abbrev pub is_left_out : List (List ℕ) → List (List ℕ) → List ℕ → Bool
 is_left_out imports exports name =
     is_several (found exports name) || not (is_none (found imports name))

@@ -18,28 +18,43 @@ use std::alloc::{AllocError, Global};
 fn spelled(alloc: Global, name: ExternNameForm<'_>) -> Result<String, AllocError>
     ensures { IfOk result (λ text. string_bytes text ≡ name_spelling (form_tree name.entry)) }
 {
+    let mut out = String::new(alloc);
     match name {
-        ExternNameForm::Label(label) => String::from_str(alloc, label),
+        ExternNameForm::Label(text) => out.push_str(text)?,
         ExternNameForm::Method { resource, method } => {
-            format!(in alloc; "[method]{resource}.{method}")
+            out.push_str("[method]")?;
+            out.push_str(resource)?;
+            out.push_str(".")?;
+            out.push_str(method)?;
         }
         ExternNameForm::Static { resource, function } => {
-            format!(in alloc; "[static]{resource}.{function}")
+            out.push_str("[static]")?;
+            out.push_str(resource)?;
+            out.push_str(".")?;
+            out.push_str(function)?;
         }
-        ExternNameForm::Constructor { resource } => format!(in alloc; "[constructor]{resource}"),
+        ExternNameForm::Constructor { resource } => {
+            out.push_str("[constructor]")?;
+            out.push_str(resource)?;
+        }
         ExternNameForm::Interface {
             namespace,
             package,
             interface,
-            version: None,
-        } => format!(in alloc; "{namespace}:{package}/{interface}"),
-        ExternNameForm::Interface {
-            namespace,
-            package,
-            interface,
-            version: Some(version),
-        } => format!(in alloc; "{namespace}:{package}/{interface}@{version}"),
+            version,
+        } => {
+            out.push_str(namespace)?;
+            out.push_str(":")?;
+            out.push_str(package)?;
+            out.push_str("/")?;
+            out.push_str(interface)?;
+            if let Some(version) = version {
+                out.push_str("@")?;
+                out.push_str(version)?;
+            }
+        }
     }
+    Ok(out)
 }
 
 /// A name by itself. Refused only where there is no memory.

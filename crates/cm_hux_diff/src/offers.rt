@@ -6,8 +6,8 @@ ghost use Rattle.cm_match_model.specs.Fitting.{fits};
 ghost use Rattle.cm_match_model.specs.Ranges.{exports_named};
 ghost use Rattle.cm_match_serving.specs.ExportTables.{HasExports};
 ghost use Rattle.cm_wit_conforms.specs.Places.{extern_names, place_in};
-ghost use Rattle.cm_hux_diff.specs.Facing.{face_of, found, greater_of, greatest_face, greatest_from};
-ghost use Rattle.cm_hux_diff.specs.Facing.{host_face, is_greater};
+ghost use Rattle.cm_hux_diff.specs.Facing.{face_of, found, greater_of, greatest_face};
+ghost use Rattle.cm_hux_diff.specs.Facing.{greatest_from, host_face, is_greater};
 
 use crate::facing::Face;
 use crate::names::names_of;
@@ -36,7 +36,6 @@ fn table_of(alloc: Global, names: &[ExternName]) -> Result<Exports, AllocError>
 }
 
 /// Whether what has a name fits what is wanted by another. Refused only where there is no memory.
-#[tactic(auto, using(crate::proofs::Faces::single_laws))]
 fn fits(alloc: Global, wanted: &ExternName, name: &ExternName) -> Result<bool, AllocError>
     ensures { IfOk result (λ b. b ≡ fits wanted.now name.now) }
 {

@@ -87,8 +87,8 @@ impl Pairs {
         self.with_pairs(&self.new, "new", text)
     }
 
-    /// A text with what stands for each resource; where nothing does, it has its own number behind a
-    /// word for its side.
+    /// A text with what stands for each resource; where nothing does, it has its own number behind
+    /// a word for its side.
     fn with_pairs(
         &self,
         pairs: &BTreeMap<u64, u64>,

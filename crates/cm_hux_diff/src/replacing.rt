@@ -32,8 +32,8 @@ pub struct Broken {
     /// The places of the imports of the old one that the new one exports and the old one does not:
     /// who imports them from a host of both finds two.
     pub hosted: Vec<usize>,
-    /// Which exports of the new one fit the name of one of the old one's, or the reverse: others may
-    /// clash with components that export them.
+    /// Which exports of the new one fit the name of one of the old one's, or the reverse: others
+    /// may clash with components that export them.
     pub met: Vec<bool>,
 }
 
@@ -49,16 +49,18 @@ fn at_host(alloc: Global, served: &Signature, of: &Signature) -> Result<AtHost, 
     ensures { IfOk result (IsAtHost (imports_in served.now) (imports_in of.now) of.now.types
         served.now.types) }
 {
-    let faces = host_faces(alloc, served.imports(), of.imports())?;
-    let entries = entries_of(alloc, of.imports(), served.imports(), &faces)?;
+    let offered = served.imports();
+    let wanted = of.imports();
+    let faces = host_faces(alloc, offered, wanted)?;
+    let entries = entries_of(alloc, wanted, offered, &faces)?;
     let none = Bound::new(alloc);
-    let mut bound = Bound::new(alloc);
-    let offered = Side {
+    let host = Side {
         types: served.types(),
         bound: &none,
         mark: 0,
     };
-    bound.note_all(&offered, &entries)?;
+    let mut bound = Bound::new(alloc);
+    bound.note_all(&host, &entries)?;
     Ok(AtHost {
         faces,
         entries,
@@ -114,7 +116,9 @@ fn users_broken(
         (offered_to_users (signature_of old.now) (signature_of new.now))
         (user_entries (signature_of old.now) (signature_of new.now)) breaks.items) }
 {
-    let entries = entries_of(alloc, old.exports(), new.exports(), faces)?;
+    let wants = old.exports();
+    let offers = new.exports();
+    let entries = entries_of(alloc, wants, offers, faces)?;
     let offered = Side {
         types: new.types(),
         bound: &hosts.bound,

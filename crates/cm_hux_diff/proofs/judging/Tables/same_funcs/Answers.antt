@@ -17,7 +17,7 @@ pub returns-clause-same : goal.returns-clause-same
 returns-clause-same c =
     let before = numbering c.number_func_type.new.numbers in
     let after = numbering c.number_func_type-2.new.numbers in
-    let left = func_stays before after (λ s ts ns. c.numbers_stay.ensures.funcs before after s ts ns c.number_func_type-2.ensures.kept) (standing_of c.args.wanted.now) (brought_func c.args.wanted.now.types.now c.args.f) c.in_ok-left.left c.in_ok-left.ensures.number in
+    let left = func_stays c.numbers_stay.ensures.funcs before after (standing_of c.args.wanted.now) (brought_func c.args.wanted.now.types.now c.args.f) c.in_ok-left.left c.number_func_type-2.ensures.kept c.in_ok-left.ensures.number in
     test_tells c.in_ok-left.left c.in_ok-right.right _ _ refl (c.tell_apart.ensures.funcs (replaced_func (standing_of c.args.wanted.now) (brought_func c.args.wanted.now.types.now c.args.f)) (replaced_func (standing_of c.args.offered.now) (brought_func c.args.offered.now.types.now c.args.g)) c.in_ok-left.left c.in_ok-right.right left c.in_ok-right.ensures.number)
 
 pub returns-clause-known : goal.returns-clause-known

@@ -17,7 +17,7 @@ pub returns-clause-same : goal.returns-clause-same
 returns-clause-same c =
     let before = numbering c.number_type.new.numbers in
     let after = numbering c.number_type-2.new.numbers in
-    let left = type_stays before after (λ s ts ns. c.numbers_stay.ensures.types before after s ts ns c.number_type-2.ensures.kept) (standing_of c.args.wanted.now) (brought_type c.args.wanted.now.types.now c.args.x) c.in_ok-left.left c.in_ok-left.ensures.number in
+    let left = type_stays c.numbers_stay.ensures.types before after (standing_of c.args.wanted.now) (brought_type c.args.wanted.now.types.now c.args.x) c.in_ok-left.left c.number_type-2.ensures.kept c.in_ok-left.ensures.number in
     test_tells c.in_ok-left.left c.in_ok-right.right _ _ refl (c.tell_apart.ensures.types (replaced (standing_of c.args.wanted.now) (brought_type c.args.wanted.now.types.now c.args.x)) (replaced (standing_of c.args.offered.now) (brought_type c.args.offered.now.types.now c.args.y)) c.in_ok-left.left c.in_ok-right.right left c.in_ok-right.ensures.number)
 
 pub returns-clause-known : goal.returns-clause-known

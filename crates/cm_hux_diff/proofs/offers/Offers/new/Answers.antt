@@ -6,4 +6,4 @@ use Rattle.cm_hux_diff.proofs.offers.Offers.new.Goals as goal
 pub invariant_of-result : goal.invariant_of-result
 invariant_of-result c =
     let h : HasExports c.in_ok-table.table (exports_named 0 c.in_ok-names.names.items) = search rules in
-    record { told = ∣ h ∣₁; }
+    record { told = ∣ h ∣₁ }
