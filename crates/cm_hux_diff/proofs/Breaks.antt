@@ -2,7 +2,7 @@
 use Rattle.std.proofs.Common.{◌≡◌, ◌↔◌, Bool, true, false, IsTrue, List, [], ◌∷◌, ◌++◌, inl, inr, refl, sym, ap, ◌∙◌}
 use Rattle.cm_types_arena.specs.Replaced.{Standing}
 use Rattle.cm_hux_diff.specs.Breaking.{AreBreaks, Serves, break_of}
-use Rattle.cm_hux_diff.specs.Held.{Entry}
+use Rattle.cm_hux_diff.specs.Held.{Entry, Held}
 use Rattle.cm_hux_diff.specs.declared.breaking.Break.{Break}
 
 pub breaks_serve : (w o : Standing) (es : List Entry) (e : Entry) (bs : List Break) → AreBreaks w o es bs → Serves w o e.held → AreBreaks w o (es ++ e ∷ []) bs
@@ -16,11 +16,11 @@ breaks_more w o (x ∷ es) e bs (inl h) unfit = inl (h.0, breaks_more w o es e b
 breaks_more w o (x ∷ es) e bs (inr h) unfit = inr (h.0, h.1 ++ break_of e ∷ [], ap (λ (l : List Break). l ++ break_of e ∷ []) h.2, breaks_more w o es e h.1 h.3 unfit)
 
 -- what a test tells
-pub told_true : (b : Bool) (P : Type 0) → IsTrue b ↔ P → b ≡ true → P
-told_true b P h e = h.0 e
+pub told_true : (w o : Standing) (h : Held) (b : Bool) → IsTrue b ↔ Serves w o h → b ≡ true → Serves w o h
+told_true w o h b t e = t.0 e
 
-pub told_false : (b : Bool) (P : Type 0) → IsTrue b ↔ P → b ≡ false → ¬ P
-told_false b P h e p = true_not (sym (h.1 p) ∙ e)
+pub told_false : (w o : Standing) (h : Held) (b : Bool) → IsTrue b ↔ Serves w o h → b ≡ false → ¬ (Serves w o h)
+told_false w o h b t e p = true_not (sym (t.1 p) ∙ e)
   where
     true_not : true ≡ false → ⊥
     true_not e = cc

@@ -3,8 +3,8 @@ use Rattle.std.proofs.Common.{◌≡◌, ℕ, zero, suc, ◌+◌, ◌<◌, ◌�
 use Rattle.std.specs.List.{slice_get}
 use Rattle.std.specs.Option.{option_and_then, option_map, option_map_or}
 use Rattle.std.proofs.lemmas.List.{length-map, take_all}
-use Rattle.std.proofs.lemmas.Option.{slice_get-map, slice_get_within}
-use Rattle.cm_lemmas.proofs.Lists.{take_one}
+use Rattle.std.proofs.lemmas.Option.{slice_get-map}
+use Rattle.cm_lemmas.proofs.Lists.{long_enough, take_one}
 use Rattle.cm_lemmas.proofs.Options.{fused}
 use Rattle.cm_types.specs.Signatures.{ItemTy, NamedExtern, NamedItem}
 use Rattle.cm_types_arena.specs.declared.types.Types.{Types}
@@ -18,7 +18,7 @@ use Rattle.cm_wit_conforms.specs.Places.{extern_names, item_names, place_in}
 use Rattle.cm_hux_diff.specs.Held.{Entry, Held, desc_held, entries_from, face_entries, item_entries, item_entry, item_held, item_named}
 use Rattle.cm_hux_diff.specs.Views.{entries_at, item_brought, item_stands}
 use Rattle.cm_hux_diff.specs.declared.facing.Face.{Face}
-use Rattle.cm_hux_diff.proofs.Places.{length_taken, take_none}
+use Rattle.cm_hux_diff.proofs.Places.{take_none}
 
 -- ---- the items of two instances
 
@@ -90,11 +90,11 @@ entries_long w o place wanted offered = long 0 (brought_items w wanted) ∙ leng
     long i (x ∷ xs) = ap suc (long (i + 1) xs)
 
 -- the place of a name is what was found for it
-pub placed_found : (texts others : List (List ℕ)) (places : List (Option ℕ)) (n : ℕ) → n < length places → places ≡ map (place_in others) texts → get_or places n None ≡ option_and_then (place_in others) (slice_get texts n)
-placed_found texts others places n lt is =
-    ap (λ (l : List (Option ℕ)). get_or l n None) is ∙ each texts n (subst (λ (l : List (Option ℕ)). n < length l) is lt)
+pub placed_found : (w o : Types) (wanted offered : Items) (places : List (Option ℕ)) (n : ℕ) → n < length places → places ≡ map (place_in (item_names o offered)) (item_names w wanted) → get_or places n None ≡ option_and_then (place_in (item_names o offered)) (slice_get (item_names w wanted) n)
+placed_found w o wanted offered places n lt is =
+    ap (λ (l : List (Option ℕ)). get_or l n None) is ∙ each (item_names w wanted) n (subst (λ (l : List (Option ℕ)). n < length l) is lt)
   where
-    each : (texts : List (List ℕ)) (n : ℕ) → n < length (map (place_in others) texts) → get_or (map (place_in others) texts) n None ≡ option_and_then (place_in others) (slice_get texts n)
+    each : (texts : List (List ℕ)) (n : ℕ) → n < length (map (place_in (item_names o offered)) texts) → get_or (map (place_in (item_names o offered)) texts) n None ≡ option_and_then (place_in (item_names o offered)) (slice_get texts n)
     each [] n lt = absurd (omega (arith, lt))
     each (x ∷ xs) zero lt = refl
     each (x ∷ xs) (suc n) lt = each xs n (omega (arith, lt))
@@ -110,8 +110,7 @@ entries_append facing offered i (x ∷ xs) ys =
 
 pub entries_one : (facing : List ℕ → Face) (offered : List NamedExtern) (n : ℕ) (xs : List NamedExtern) (x : NamedExtern) → slice_get xs n ≡ Some x → entries_from facing offered 0 (take (n + 1) xs) ≡ entries_from facing offered 0 (take n xs) ++ face_entries n offered x.desc (facing x.name)
 entries_one facing offered n xs x h =
-    let lt : n < length xs = slice_get_within xs n x h in
-    let long : length (take n xs) ≡ n = length_taken xs n (omega (arith, lt)) in
+    let long : length (take n xs) ≡ n = long_enough xs n x h in
     ap (entries_from facing offered 0) (take_one xs n x h)
     ∙ (entries_append facing offered 0 (take n xs) (x ∷ [])
     ∙ ap (λ (es : List Entry). entries_from facing offered 0 (take n xs) ++ es)
@@ -143,7 +142,7 @@ entries_next w o facing wanted offered faces n f before after is lt at was step 
     by None h =
         ap (λ (x : Option NamedExtern). entries_from facing (externs_listed o offered) 0 (take n (externs_listed w wanted)) ++ option_map_or (λ (y : NamedExtern). face_entries n (externs_listed o offered) y.desc f) x []) h
         ∙ (append-nil (entries_from facing (externs_listed o offered) 0 (take n (externs_listed w wanted)))
-        ∙ ap (entries_from facing (externs_listed o offered) 0) (sym (take_none (externs_listed w wanted) n h)))
+        ∙ ap (entries_from facing (externs_listed o offered) 0) (sym (take_none n (externs_listed w wanted) h)))
     by (Some x) h =
         ap (λ (y : Option NamedExtern). entries_from facing (externs_listed o offered) 0 (take n (externs_listed w wanted)) ++ option_map_or (λ (z : NamedExtern). face_entries n (externs_listed o offered) z.desc f) y []) h
         ∙ (ap (λ (g : Face). entries_from facing (externs_listed o offered) 0 (take n (externs_listed w wanted)) ++ face_entries n (externs_listed o offered) x.desc g) (face_there facing (externs_listed w wanted) faces n x f is lt at h)

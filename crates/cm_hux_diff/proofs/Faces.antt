@@ -5,14 +5,12 @@ use Rattle.std.specs.Option.{option_and_then}
 use Rattle.std.specs.Prelude.{filter, if◌then◌else◌, ◌&&◌, not}
 use Rattle.std.proofs.lemmas.Bool.{cases_Bool}
 use Rattle.std.proofs.lemmas.List.{drop_all}
-use Rattle.std.proofs.lemmas.Option.{slice_get_within}
-use Rattle.cm_lemmas.proofs.Lists.{take_one, rest_from}
+use Rattle.cm_lemmas.proofs.Lists.{long_enough, take_one, rest_from}
 use Rattle.cm_match_model.specs.Fitting.{NamedExport, candidates, fits, named_export, only}
 use Rattle.cm_match_model.specs.Ranges.{exports_named}
 use Rattle.cm_match_model.specs.declared.candidates.Candidate.{Candidate}
 use Rattle.cm_match_model.specs.declared.candidates.Candidate.TheVariants as candidate
 use Rattle.cm_hux_diff.specs.Facing.{greater_of, greatest_from, hosted_at, hosted_from}
-use Rattle.cm_hux_diff.proofs.Places.{length_taken}
 
 -- ---- exports in a table
 
@@ -22,8 +20,7 @@ named_append n (x ∷ xs) ys = ap (λ (es : List NamedExport). named_export 0 n 
 
 pub named_next : (xs : List (List ℕ)) (n : ℕ) (x : List ℕ) → slice_get xs n ≡ Some x → exports_named 0 (take n xs) ++ named_export 0 n x ∷ [] ≡ exports_named 0 (take (n + 1) xs)
 named_next xs n x h =
-    let lt : n < length xs = slice_get_within xs n x h in
-    let long : length (take n xs) ≡ n = length_taken xs n (omega (arith, lt)) in
+    let long : length (take n xs) ≡ n = long_enough xs n x h in
     ap (λ (k : ℕ). exports_named 0 (take n xs) ++ named_export 0 k x ∷ []) (omega (arith, long))
     ∙ (sym (named_append 0 (take n xs) (x ∷ [])) ∙ ap (exports_named 0) (sym (take_one xs n x h)))
 

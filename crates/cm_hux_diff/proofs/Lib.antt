@@ -5,5 +5,5 @@ pub mod Bindings
 pub mod Breaks
 pub mod Entries
 pub mod Numbers
-pub mod Held
+pub mod Tables
 pub mod Standings

@@ -8,14 +8,14 @@ use Rattle.std.proofs.lemmas.Option.{slice_get_cases, slice_get_within, slice_ge
 use Rattle.cm_lemmas.proofs.Lists.{take_one}
 use Rattle.cm_types.specs.Signatures.{NamedExtern}
 
-pub read_at : {A : Type 0} (xs : List A) (i : ℕ) (x : A) → i < length xs → x ≡ get_or xs i x → slice_get xs i ≡ Some x
-read_at [] i x lt e = absurd (omega (arith, lt))
-read_at {A} (y ∷ ys) zero x lt e = ap (λ (a : A). let o : Option A = Some a in o) (sym e)
-read_at (y ∷ ys) (suc i) x lt e = read_at ys i x (omega (arith, lt)) e
+pub read_at : {A : Type 0} (x : A) (xs : List A) (i : ℕ) → i < length xs → x ≡ get_or xs i x → slice_get xs i ≡ Some x
+read_at x [] i lt e = absurd (omega (arith, lt))
+read_at {A} x (y ∷ ys) zero lt e = ap (λ (a : A). let o : Option A = Some a in o) (sym e)
+read_at x (y ∷ ys) (suc i) lt e = read_at x ys i (omega (arith, lt)) e
 
 -- nothing more stands behind the end
-pub take_none : {E : Type 0} (xs : List E) (n : ℕ) → slice_get xs n ≡ None → take (n + 1) xs ≡ take n xs
-take_none {E} xs n h = elim (slice_get_cases xs n).1 [
+pub take_none : {E : Type 0} (n : ℕ) (xs : List E) → slice_get xs n ≡ None → take (n + 1) xs ≡ take n xs
+take_none {E} n xs h = elim (slice_get_cases xs n).1 [
   | inl f ↦ absurd (none_some f.0 (sym h ∙ f.2))
   | inr p ↦ take_all (n + 1) xs (let le : length xs ≤ n = p.0 in omega (arith, le)) ∙ sym (take_all n xs p.0)
 ]
@@ -32,18 +32,12 @@ index_mapped {A} f (y ∷ ys) zero x e = ap f (one e)
     one h = cc
 index_mapped f (y ∷ ys) (suc n) x e = index_mapped f ys n x e
 
-pub length_taken : {E : Type 0} (xs : List E) (n : ℕ) → n ≤ length xs → length (take n xs) ≡ n
-length_taken [] zero le = refl
-length_taken [] (suc n) le = absurd (omega (arith, le))
-length_taken (x ∷ xs) zero le = refl
-length_taken (x ∷ xs) (suc n) le = ap suc (length_taken xs n (omega (arith, le)))
-
 -- the next of those that there are, if there is one
 pub taken_next : {E : Type 0} (xs : List E) (n : ℕ) → take n xs ++ option_to_list (slice_get xs n) ≡ take (n + 1) xs
 taken_next {E} xs n = by (slice_get xs n) refl
   where
     by : (o : Option E) → slice_get xs n ≡ o → take n xs ++ option_to_list o ≡ take (n + 1) xs
-    by None h = append-nil (take n xs) ∙ sym (take_none xs n h)
+    by None h = append-nil (take n xs) ∙ sym (take_none n xs h)
     by (Some x) h = sym (take_one xs n x h)
 
 -- the same behind others
@@ -65,7 +59,7 @@ names_end xs n out le is =
 
 -- what is made of one more
 pub mapped_next : {C D : Type 0} (view : C → D) (xs : List C) (i : ℕ) (x : C) → i < length xs → x ≡ get_or xs i x → map view (take (i + 1) xs) ≡ map view (take i xs) ++ view x ∷ []
-mapped_next {C} {D} view xs i x lt at = ap (map view) (take_one xs i x (read_at xs i x lt at)) ∙ pushed (take i xs)
+mapped_next {C} {D} view xs i x lt at = ap (map view) (take_one xs i x (read_at x xs i lt at)) ∙ pushed (take i xs)
   where
     pushed : (ys : List C) → map view (ys ++ x ∷ []) ≡ map view ys ++ view x ∷ []
     pushed [] = refl

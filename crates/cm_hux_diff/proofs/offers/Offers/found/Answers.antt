@@ -1,7 +1,7 @@
 use Rattle.cm_lemmas.proofs.Results.{if_ok_more}
 use Rattle.cm_match_model.specs.Ranges.{exports_named}
 use Rattle.cm_hux_diff.specs.Facing.{found}
-use Rattle.cm_hux_diff.proofs.Held.{held}
+use Rattle.cm_hux_diff.proofs.Tables.{held}
 use Rattle.cm_hux_diff.proofs.offers.Offers.found.Goals as goal
 
 pub returns : goal.returns

@@ -1,14 +1,13 @@
 use Rattle.std.proofs.Common.{◌≡◌, ◌++◌, ◌∙◌, ap, arith, length, map}
 use Rattle.std.proofs.lemmas.List.{length-map, take_all}
 use Rattle.cm_types_arena.specs.Listed.{items_listed}
-use Rattle.cm_wit_conforms.specs.Places.{item_names}
 use Rattle.cm_hux_diff.specs.Views.{entry_view, instance_entries}
 use Rattle.cm_hux_diff.proofs.Entries.{all_placed, entries_long, placed_found}
 use Rattle.cm_hux_diff.proofs.Places.{shown_next}
 use Rattle.cm_hux_diff.proofs.walk.Walk.add_placed.Goals as goal
 
 pub add_item-requires : goal.add_item-requires
-add_item-requires c = λ t u. placed_found (item_names t c.args.two.wanted) (item_names u c.args.two.offered) c.args.places.now c.loop-number.number c.loop-number-test.true (c.requires t u)
+add_item-requires c = λ t u. placed_found t u c.args.two.wanted c.args.two.offered c.args.places.now c.loop-number.number c.loop-number-test.true (c.requires t u)
 
 pub loop-number-preserved : goal.loop-number-preserved
 loop-number-preserved c = λ w o. shown_next _ (instance_entries w o c.args.two) c.loop-number.number _ _ (c.loop-number.invariant w o) (c.in_ok-add_item.ensures w o)
