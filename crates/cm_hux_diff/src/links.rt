@@ -1,11 +1,10 @@
 //! Which imports and exports of two signatures face each other.
 
 ghost use Rattle.std.specs.Prelude.{◌≡◌, ◌++◌, IfOk, None, OnOk, map, slice_index_or};
-ghost use Rattle.cm_types_arena.specs.Signatures.{signature_of};
-ghost use Rattle.cm_types_arena.specs.declared.types.Types.{Types};
-ghost use Rattle.cm_wit_conforms.specs.Places.{extern_names};
+ghost use Rattle.cm_types_arena.specs.Signatures.{imports_in, signature_of};
+ghost use Rattle.cm_wit_conforms.specs.Places.{place_in};
 ghost use Rattle.cm_hux_diff.specs.Facing.{host_face, hosted_at, hosted_from, is_hosted};
-ghost use Rattle.cm_hux_diff.specs.Facing.{is_left_out};
+ghost use Rattle.cm_hux_diff.specs.Facing.{is_left_out, names};
 ghost use Rattle.cm_hux_diff.specs.Views.{LinksOf, faces_in};
 
 use crate::facing::Face;
@@ -13,7 +12,7 @@ use crate::names::names_of;
 use crate::offers::{Offers, face_of, mark};
 use cm_match_model::Candidate;
 use cm_types::ExternName;
-use cm_types_arena::{Externs, Signature};
+use cm_types_arena::Signature;
 use cm_wit_conforms::extern_places;
 use std::alloc::{AllocError, Global};
 
@@ -27,25 +26,40 @@ fn place_at(places: &[Option<usize>], place: usize) -> Option<usize>
     }
 }
 
-/// What of a host's exports, which are these imports of the old one, faces each import. Refused
-/// only where there is no memory.
+/// What faces each of these imports, at the place of the one that has its name, if one has.
 #[tactic(auto, using(cm_wit_conforms::proofs::MapLaws::plain_laws))]
+fn faces_of(
+    alloc: Global,
+    offers: &Offers,
+    wanted: &[ExternName],
+    places: &[Option<usize>],
+) -> Result<Vec<Face>, AllocError>
+    requires { places.now ≡ map (place_in offers.now.names.items) wanted.now }
+    ensures { IfOk result (λ v. v.items ≡ map (host_face offers.now.names.items) wanted.now) }
+{
+    let mut faces = Vec::with_capacity(alloc, wanted.len())?;
+    for (place, name) in wanted.iter().enumerate() {
+        faces.push(offers.host_face(alloc, name, place_at(places, place))?)?;
+    }
+    Ok(faces)
+}
+
+/// What of a host's exports, which are the imports of the old one, faces each import. Refused only
+/// where there is no memory.
 pub(crate) fn host_faces(
     alloc: Global,
-    served: &Externs,
-    imports: &Externs,
+    old: &Signature,
+    of: &Signature,
 ) -> Result<Vec<Face>, AllocError>
-    ensures { IfOk result (λ v. (t u : Types) → v.items
-        ≡ map (host_face (extern_names t served.now)) (extern_names u imports.now)) }
+    ensures { IfOk result (λ v. v.items
+        ≡ map (host_face (names (imports_in old.now))) (names (imports_in of.now))) }
 {
+    let served = old.imports();
+    let imports = of.imports();
     let offers = Offers::new(alloc, served)?;
     let wanted = names_of(alloc, imports)?;
     let places = extern_places(alloc, imports, served)?;
-    let mut faces = Vec::with_capacity(alloc, wanted.len())?;
-    for (place, name) in wanted.iter().enumerate() {
-        faces.push(offers.host_face(alloc, name, place_at(&places, place))?)?;
-    }
-    Ok(faces)
+    faces_of(alloc, &offers, &wanted, &places)
 }
 
 /// What users look for the exports of the old one in.

@@ -51,7 +51,7 @@ fn at_host(alloc: Global, served: &Signature, of: &Signature) -> Result<AtHost, 
 {
     let offered = served.imports();
     let wanted = of.imports();
-    let faces = host_faces(alloc, offered, wanted)?;
+    let faces = host_faces(alloc, served, of)?;
     let entries = entries_of(alloc, wanted, offered, &faces)?;
     let none = Bound::new(alloc);
     let host = Side {

@@ -18,14 +18,12 @@ returns c =
     let ours = imports_in c.args.of.now in
     let listed : externs_listed o c.imports-offered.result.now ≡ theirs = c.imports-offered.ensures.externs in
     let wanted : externs_listed w c.imports-wanted.result.now ≡ ours = c.imports-wanted.ensures.externs in
-    let faces : c.in_ok-faces.faces.items ≡ map (host_face (names theirs)) (names (externs_listed w c.imports-wanted.result.now)) =
-    c.in_ok-faces.ensures o w ∙ ap (λ (l : List NamedExtern). map (host_face (names l)) (names (externs_listed w c.imports-wanted.result.now))) listed in
     let entries : map (entry_view w o) c.in_ok-entries.entries.items ≡ host_entries theirs ours =
-    c.in_ok-entries.ensures w o (host_face (names theirs)) (c.deref-faces.ensures.value ∙ faces)
+    c.in_ok-entries.ensures w o (host_face (names theirs)) (c.deref-faces.ensures.value ∙ (c.in_ok-faces.ensures ∙ ap (λ (l : List NamedExtern). map (host_face (names theirs)) (names l)) (sym wanted)))
     ∙ (ap (λ (l : List NamedExtern). entries_from (host_face (names theirs)) l 0 (externs_listed w c.imports-wanted.result.now)) listed
     ∙ ap (entries_from (host_face (names theirs)) theirs 0) wanted) in
     record {
-      faces = faces ∙ ap (λ (l : List NamedExtern). map (host_face (names theirs)) (names l)) wanted;
+      faces = c.in_ok-faces.ensures;
       entries = entries;
       bound = λ n. noted_as _ (marked 0) _ (host_entries theirs ours) n _ _ _ (standing_marked _ c.new-none.ensures) (ap (map (entry_view w o)) c.deref-entries.ensures.value ∙ entries) (c.new-bound.ensures n) (c.in_ok-note_all.ensures w o n);
     }
