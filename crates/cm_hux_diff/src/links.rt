@@ -75,10 +75,13 @@ impl Links {
     pub(crate) fn new(alloc: Global, old: &Signature, new: &Signature) -> Result<Links, AllocError>
         ensures { IfOk result (LinksOf (signature_of old.now) (signature_of new.now)) }
     {
+        let imports = Offers::new(alloc, old.imports())?;
+        let exports = Offers::new(alloc, old.exports())?;
+        let offers = Offers::new(alloc, new.exports())?;
         Ok(Links {
-            imports: Offers::new(alloc, old.imports())?,
-            exports: Offers::new(alloc, old.exports())?,
-            offers: Offers::new(alloc, new.exports())?,
+            imports,
+            exports,
+            offers,
         })
     }
 
