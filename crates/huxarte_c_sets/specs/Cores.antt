@@ -1,0 +1,44 @@
+-- Core values in numbers (this project's own choice).
+use Rattle.std.specs.Prelude.{◌≡◌, ⊤, ◌<◌, ◌%◌, ◌^◌, ℕ, zero, suc, List, Option, None, Some, map}
+use Rattle.std.specs.Prelude.{length, replicate, slice_get, take}
+use Rattle.std.specs.List.{AllByRecursion}
+use Rattle.cm_types.specs.declared.core_value.CoreValue.{CoreValue}
+use Rattle.cm_types.specs.declared.core_value.CoreValue.TheVariants.{I32, I64}
+use Rattle.huxarte_c_calls.specs.Texts.{written}
+use Rattle.huxarte_c_sets.specs.declared.cores.HuxCore.{HuxCore}
+use Rattle.huxarte_c_sets.specs.declared.refusal.SetRefusal.{SetRefusal}
+use Rattle.huxarte_c_sets.specs.declared.refusal.SetRefusal.TheVariants as refusal
+
+-- a core value in numbers
+abbrev pub core_of : CoreValue → HuxCore
+core_of (I32 n) = record { bits = n; kind = 0 }
+core_of (I64 n) = record { bits = n; kind = 1 }
+
+-- the core value of numbers, where they have a kind
+abbrev pub value_at : ℕ → ℕ → CoreValue
+value_at bits zero = I32 (bits % 2 ^ 32)
+value_at bits (suc kind) = I64 bits
+
+abbrev pub value_of : HuxCore → CoreValue
+value_of c = value_at c.bits c.kind
+
+-- each has a kind
+abbrev pub AreKinds : List HuxCore → Type 0
+AreKinds cores = AllByRecursion (λ c. c.kind < 2) cores
+
+-- the first that has none is at this place
+pub record IsUnknownAt (cores : List HuxCore) (place : ℕ) : Type 0 where
+  pub core : HuxCore
+  pub stands : slice_get cores place ≡ Some core
+  pub unknown : core.kind < 2 → ⊥
+  pub before : AreKinds (take place cores)
+
+-- why numbers are no core values; or there was no memory for their list
+abbrev pub IsCoresFault : List HuxCore → SetRefusal → Type 0
+IsCoresFault cores (refusal.NoKind place) = IsUnknownAt cores place
+IsCoresFault cores refusal.Memory = ⊤
+IsCoresFault cores _ = ⊥
+
+-- core values in an array: behind them stands 0 of 32 bits
+abbrev pub placed : List CoreValue → List HuxCore
+placed values = written (replicate 16 (record { bits = 0; kind = 0 })) (map core_of values)

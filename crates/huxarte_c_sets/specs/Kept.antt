@@ -1,0 +1,97 @@
+-- What the calls do to the set that a handle keeps.
+use Rattle.std.specs.Prelude.{◌≡◌, ⊤, ◌≤◌, ◌+◌, ℕ, List, [], Option, Some, None, Result, Ok, Err}
+use Rattle.std.specs.Prelude.{drop, length, slice_get, take}
+use Rattle.cm_machine_model.specs.declared.event.Event.{Event}
+use Rattle.cm_machine_model.specs.declared.event.Event.TheVariants as event
+use Rattle.cm_machine_model.specs.declared.event.Misuse.{Misuse}
+use Rattle.cm_machine_model.specs.declared.event.Misuse.TheVariants as misuse
+use Rattle.cm_machine_model.specs.declared.moves.Move.{Move}
+use Rattle.cm_machine_model.specs.Run.{misuse_of_begin}
+use Rattle.cm_machine_set.specs.Running.{RunningSet, SetSteps, begun}
+use Rattle.huxarte_c_calls.specs.Verdicts.{verdict_by}
+use Rattle.huxarte_c_calls.specs.declared.verdicts.HuxVerdict.{HuxVerdict}
+use Rattle.huxarte_c_sets.specs.Cores.{AreKinds, IsUnknownAt}
+use Rattle.huxarte_c_sets.specs.Events.{event_in}
+use Rattle.huxarte_c_sets.specs.Refused.{of_set}
+use Rattle.huxarte_c_sets.specs.declared.cores.HuxCore.{HuxCore}
+use Rattle.huxarte_c_sets.specs.declared.event.HuxEvent.{HuxEvent}
+use Rattle.huxarte_c_sets.specs.declared.refusal.SetRefusal.{SetRefusal}
+use Rattle.huxarte_c_sets.specs.declared.refusal.SetRefusal.TheVariants as refusal
+
+-- ---- root calls
+
+-- the handle keeps a set, on whose empty stack a root call of the instance now stands
+abbrev pub KeptBegins : Option RunningSet → ℕ → Option RunningSet → Type 0
+KeptBegins old instance new = (s : RunningSet) × (old ≡ Some s)
+    × (misuse_of_begin s.state instance ≡ None) × (new ≡ Some (begun s instance))
+
+-- why no root call begins
+abbrev pub IsNoBegin : Option RunningSet → ℕ → SetRefusal → Type 0
+IsNoBegin old instance refusal.Empty = old ≡ None
+IsNoBegin old instance (refusal.Misuse m) = (s : RunningSet) × (old ≡ Some s)
+    × (misuse_of_begin s.state instance ≡ Some m)
+IsNoBegin old instance _ = ⊥
+
+-- ---- moves
+
+-- the handle keeps a set, of which an instance acts, and which comes by this move to this event
+abbrev pub KeptSteps : Option RunningSet → Move → Event → Option RunningSet → Type 0
+KeptSteps old m e new = (s n : RunningSet) × (old ≡ Some s) × (new ≡ Some n)
+    × (s.state.stack ≡ [] → ⊥) × SetSteps s m e n
+
+-- why no move is made: there is no set, or no instance of it acts
+abbrev pub IsNoMove : Option RunningSet → SetRefusal → Type 0
+IsNoMove old refusal.Empty = old ≡ None
+IsNoMove old (refusal.Misuse m) = (s : RunningSet) × (old ≡ Some s)
+    × (m ≡ misuse.Idle) × (s.state.stack ≡ [])
+IsNoMove old _ = ⊥
+
+-- the same for a move that has a list, for which there may be no memory
+abbrev pub IsNoListMove : Option RunningSet → SetRefusal → Type 0
+IsNoListMove old refusal.Memory = ⊤
+IsNoListMove old r = IsNoMove old r
+
+-- and for one that has core values, each of which is to have a kind
+abbrev pub IsNoCoreMove : List HuxCore → Option RunningSet → SetRefusal → Type 0
+IsNoCoreMove cores old (refusal.NoKind place) = IsUnknownAt cores place
+IsNoCoreMove cores old refusal.Memory = ⊤
+IsNoCoreMove cores old r = AreKinds cores × IsNoMove old r
+
+-- what a handle keeps, and the event that was told last
+pub record Told : Type 0 where
+  pub kept : Option RunningSet
+  pub event : HuxEvent
+
+-- What a call comes to that makes something of which this holds happen: it has happened, and its
+-- event is told; or nothing has changed, for such a reason.
+abbrev pub IsDone : (Event → Option RunningSet → Type 0) → (SetRefusal → Type 0) → Told → Told
+    → Result (Unit {0}) SetRefusal → Type 0
+IsDone Happens Why old new (Ok _) = (e : Event) × Happens e new.kept × (new.event ≡ event_in e)
+IsDone Happens Why old new (Err r) = (new ≡ old) × Why r
+
+abbrev pub IsDoneVerdict : (Event → Option RunningSet → Type 0) → (SetRefusal → Type 0) → Told
+    → Told → HuxVerdict → Type 0
+IsDoneVerdict Happens Why old new v =
+    (o : Result (Unit {0}) SetRefusal) × IsDone Happens Why old new o × (v ≡ verdict_by of_set o)
+
+-- a root call begins
+abbrev pub Begins : Option RunningSet → ℕ → Event → Option RunningSet → Type 0
+Begins old instance e new = (e ≡ event.Resume instance []) × KeptBegins old instance new
+
+-- a move of this form is made
+abbrev pub Moves : (Move → Type 0) → Option RunningSet → Event → Option RunningSet → Type 0
+Moves IsMove old e new = (m : Move) × IsMove m × KeptSteps old m e new
+
+-- ---- looks
+
+-- What a call comes to that looks at a set and tells what it sees: that is told; or what was there
+-- before stays, for such a reason. The set stays in any case.
+abbrev pub IsSeen : {A : Type 0} → (A → Type 0) → (SetRefusal → Type 0) → A → A
+    → Result (Unit {0}) SetRefusal → Type 0
+IsSeen Shows Why old new (Ok _) = Shows new
+IsSeen Shows Why old new (Err r) = (new ≡ old) × Why r
+
+abbrev pub IsSeenVerdict : {A : Type 0} → (A → Type 0) → (SetRefusal → Type 0) → A → A
+    → HuxVerdict → Type 0
+IsSeenVerdict Shows Why old new v =
+    (o : Result (Unit {0}) SetRefusal) × IsSeen Shows Why old new o × (v ≡ verdict_by of_set o)
