@@ -1,10 +1,9 @@
 -- Core values in numbers (this project's own choice).
-use Rattle.std.specs.Prelude.{◌≡◌, ⊤, ◌<◌, ◌%◌, ◌^◌, ℕ, zero, suc, List, Option, None, Some, map}
-use Rattle.std.specs.Prelude.{length, replicate, slice_get, take}
+use Rattle.std.specs.Prelude.{◌≡◌, ⊤, ◌<◌, ◌%◌, ◌^◌, ℕ, zero, suc, List, [], ◌∷◌, Option, None, Some}
+use Rattle.std.specs.Prelude.{slice_get, take}
 use Rattle.std.specs.List.{AllByRecursion}
 use Rattle.cm_types.specs.declared.core_value.CoreValue.{CoreValue}
 use Rattle.cm_types.specs.declared.core_value.CoreValue.TheVariants.{I32, I64}
-use Rattle.huxarte_c_calls.specs.Texts.{written}
 use Rattle.huxarte_c_sets.specs.declared.cores.HuxCore.{HuxCore}
 use Rattle.huxarte_c_sets.specs.declared.refusal.SetRefusal.{SetRefusal}
 use Rattle.huxarte_c_sets.specs.declared.refusal.SetRefusal.TheVariants as refusal
@@ -39,6 +38,17 @@ IsCoresFault cores (refusal.NoKind place) = IsUnknownAt cores place
 IsCoresFault cores refusal.Memory = ⊤
 IsCoresFault cores _ = ⊥
 
--- core values in an array: behind them stands 0 of 32 bits
+-- the core value at a place in numbers, 0 of 32 bits where there is none
+abbrev pub core_or_none : Option CoreValue → HuxCore
+core_or_none None = record { bits = 0; kind = 0 }
+core_or_none (Some v) = core_of v
+
+abbrev pub core_at : List CoreValue → ℕ → HuxCore
+core_at values place = core_or_none (slice_get values place)
+
+-- core values in an array of 16
 abbrev pub placed : List CoreValue → List HuxCore
-placed values = written (replicate 16 (record { bits = 0; kind = 0 })) (map core_of values)
+placed vs = core_at vs 0 ∷ core_at vs 1 ∷ core_at vs 2 ∷ core_at vs 3
+    ∷ core_at vs 4 ∷ core_at vs 5 ∷ core_at vs 6 ∷ core_at vs 7
+    ∷ core_at vs 8 ∷ core_at vs 9 ∷ core_at vs 10 ∷ core_at vs 11
+    ∷ core_at vs 12 ∷ core_at vs 13 ∷ core_at vs 14 ∷ core_at vs 15 ∷ []

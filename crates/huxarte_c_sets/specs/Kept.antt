@@ -22,29 +22,37 @@ use Rattle.huxarte_c_sets.specs.declared.refusal.SetRefusal.TheVariants as refus
 
 -- the handle keeps a set, on whose empty stack a root call of the instance now stands
 abbrev pub KeptBegins : Option RunningSet → ℕ → Option RunningSet → Type 0
-KeptBegins old instance new = (s : RunningSet) × (old ≡ Some s)
-    × (misuse_of_begin s.state instance ≡ None) × (new ≡ Some (begun s instance))
+KeptBegins None instance new = ⊥
+KeptBegins (Some s) instance new =
+    (misuse_of_begin s.state instance ≡ None) × (new ≡ Some (begun s instance))
+
+-- this misuse is why, if there is one
+abbrev pub IsMisuse : Option Misuse → SetRefusal → Type 0
+IsMisuse why (refusal.Misuse m) = why ≡ Some m
+IsMisuse why _ = ⊥
 
 -- why no root call begins
 abbrev pub IsNoBegin : Option RunningSet → ℕ → SetRefusal → Type 0
-IsNoBegin old instance refusal.Empty = old ≡ None
-IsNoBegin old instance (refusal.Misuse m) = (s : RunningSet) × (old ≡ Some s)
-    × (misuse_of_begin s.state instance ≡ Some m)
-IsNoBegin old instance _ = ⊥
+IsNoBegin None instance r = r ≡ refusal.Empty
+IsNoBegin (Some s) instance r = IsMisuse (misuse_of_begin s.state instance) r
 
 -- ---- moves
 
 -- the handle keeps a set, of which an instance acts, and which comes by this move to this event
 abbrev pub KeptSteps : Option RunningSet → Move → Event → Option RunningSet → Type 0
-KeptSteps old m e new = (s n : RunningSet) × (old ≡ Some s) × (new ≡ Some n)
-    × (s.state.stack ≡ [] → ⊥) × SetSteps s m e n
+KeptSteps (Some s) m e (Some n) = (s.state.stack ≡ [] → ⊥) × SetSteps s m e n
+KeptSteps (Some s) m e None = ⊥
+KeptSteps None m e new = ⊥
+
+-- no instance of a set acts
+abbrev pub IsIdle : RunningSet → SetRefusal → Type 0
+IsIdle s (refusal.Misuse m) = (m ≡ misuse.Idle) × (s.state.stack ≡ [])
+IsIdle s _ = ⊥
 
 -- why no move is made: there is no set, or no instance of it acts
 abbrev pub IsNoMove : Option RunningSet → SetRefusal → Type 0
-IsNoMove old refusal.Empty = old ≡ None
-IsNoMove old (refusal.Misuse m) = (s : RunningSet) × (old ≡ Some s)
-    × (m ≡ misuse.Idle) × (s.state.stack ≡ [])
-IsNoMove old _ = ⊥
+IsNoMove None r = r ≡ refusal.Empty
+IsNoMove (Some s) r = IsIdle s r
 
 -- the same for a move that has a list, for which there may be no memory
 abbrev pub IsNoListMove : Option RunningSet → SetRefusal → Type 0

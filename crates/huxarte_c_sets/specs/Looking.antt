@@ -37,12 +37,13 @@ state_in s = record {
 }
 
 abbrev pub KeepsState : Option RunningSet → HuxSetState → Type 0
-KeepsState kept seen = (s : RunningSet) × (kept ≡ Some s) × (seen ≡ state_in s)
+KeepsState None seen = ⊥
+KeepsState (Some s) seen = seen ≡ state_in s
 
 -- why it is not told: there is no set
 abbrev pub IsEmpty : Option RunningSet → SetRefusal → Type 0
-IsEmpty kept refusal.Empty = kept ≡ None
-IsEmpty kept _ = ⊥
+IsEmpty None r = r ≡ refusal.Empty
+IsEmpty (Some s) r = ⊥
 
 -- ---- an instance
 
@@ -61,19 +62,14 @@ IsInstance s instance seen = (memory : List ℕ)
     × (slice_get s.state.memories instance ≡ Some memory) × (seen ≡ instance_in s instance memory)
 
 abbrev pub KeepsInstance : Option RunningSet → ℕ → HuxInstance → Type 0
-KeepsInstance kept instance seen =
-    (s : RunningSet) × (kept ≡ Some s) × IsInstance s instance seen
+KeepsInstance None instance seen = ⊥
+KeepsInstance (Some s) instance seen = IsInstance s instance seen
 
--- the handle keeps a set that has no such instance
-abbrev pub LacksInstance : Option RunningSet → ℕ → Type 0
-LacksInstance kept instance =
-    (s : RunningSet) × (kept ≡ Some s) × (slice_get s.state.memories instance ≡ None)
-
--- why it is not told
+-- why it is not told: there is no set, or it has no such instance
 abbrev pub IsNoInstance : Option RunningSet → ℕ → SetRefusal → Type 0
-IsNoInstance kept instance refusal.Empty = kept ≡ None
-IsNoInstance kept instance refusal.NoInstance = LacksInstance kept instance
-IsNoInstance kept instance _ = ⊥
+IsNoInstance None instance r = r ≡ refusal.Empty
+IsNoInstance (Some s) instance r =
+    (r ≡ refusal.NoInstance) × (slice_get s.state.memories instance ≡ None)
 
 -- ---- bytes of a memory
 
@@ -96,13 +92,12 @@ IsNoPartOf s instance at count refusal.Outside = (memory : List ℕ)
 IsNoPartOf s instance at count _ = ⊥
 
 abbrev pub KeepsPart : Option RunningSet → ℕ → ℕ → List ℕ → Type 0
-KeepsPart kept instance at part =
-    (s : RunningSet) × (kept ≡ Some s) × IsPartOf s instance at part
+KeepsPart None instance at part = ⊥
+KeepsPart (Some s) instance at part = IsPartOf s instance at part
 
 abbrev pub IsNoPart : Option RunningSet → ℕ → ℕ → ℕ → SetRefusal → Type 0
-IsNoPart kept instance at count refusal.Empty = kept ≡ None
-IsNoPart kept instance at count r =
-    (s : RunningSet) × (kept ≡ Some s) × IsNoPartOf s instance at count r
+IsNoPart None instance at count r = r ≡ refusal.Empty
+IsNoPart (Some s) instance at count r = IsNoPartOf s instance at count r
 
 -- ---- a handle
 
@@ -142,10 +137,9 @@ IsNoHandleOf s instance index resource (refusal.NoHandle f) = (handles : Handles
 IsNoHandleOf s instance index resource _ = ⊥
 
 abbrev pub KeepsHandle : Option RunningSet → ℕ → ℕ → ResourceId → HuxHandle → Type 0
-KeepsHandle kept instance index resource seen =
-    (s : RunningSet) × (kept ≡ Some s) × IsHandle s instance index resource seen
+KeepsHandle None instance index resource seen = ⊥
+KeepsHandle (Some s) instance index resource seen = IsHandle s instance index resource seen
 
 abbrev pub IsNoHandle : Option RunningSet → ℕ → ℕ → ResourceId → SetRefusal → Type 0
-IsNoHandle kept instance index resource refusal.Empty = kept ≡ None
-IsNoHandle kept instance index resource r =
-    (s : RunningSet) × (kept ≡ Some s) × IsNoHandleOf s instance index resource r
+IsNoHandle None instance index resource r = r ≡ refusal.Empty
+IsNoHandle (Some s) instance index resource r = IsNoHandleOf s instance index resource r

@@ -1,6 +1,6 @@
 -- Sets of the components of files.
-use Rattle.std.specs.Prelude.{◌≡◌, ◌⊎◌, ⊤, ℕ, List, Option, None, Some, Result, Ok, Err, false}
-use Rattle.std.specs.Prelude.{length}
+use Rattle.std.specs.Prelude.{◌≡◌, ◌↔◌, ◌⊎◌, ⊤, ℕ, List, Option, None, Some, Result, Ok, Err}
+use Rattle.std.specs.Prelude.{false, length}
 use Rattle.cm_machine_model.specs.State.{are_page_counts}
 use Rattle.cm_machine_model.specs.declared.event.Misuse.{Misuse}
 use Rattle.cm_machine_model.specs.declared.event.Misuse.TheVariants as misuse
@@ -24,8 +24,8 @@ IsSetLinked set pages s = CanBeLinked set × IsNew set pages s
 
 -- why the machine makes no set of linked components
 abbrev pub IsUnmadeBy : List Spaces → List ℕ → SetRefusal → Type 0
-IsUnmadeBy set pages (refusal.Misuse m) =
-    ((m ≡ misuse.BadPages) × (are_page_counts (length set) pages ≡ false)) ⊎ (m ≡ misuse.Memory)
+IsUnmadeBy set pages (refusal.Misuse m) = ((m ≡ misuse.BadPages) ⊎ (m ≡ misuse.Memory))
+    × ((m ≡ misuse.BadPages) ↔ (are_page_counts (length set) pages ≡ false))
 IsUnmadeBy set pages refusal.Memory = ⊤
 IsUnmadeBy set pages _ = ⊥
 
@@ -64,13 +64,15 @@ IsUnmadeParts bytes spans pages _ = ⊥
 -- the handle kept none, and keeps a new set of the components of files
 abbrev pub KeptMade : List ℕ → List HuxSpan → List ℕ → Option RunningSet → Option RunningSet
     → Type 0
-KeptMade bytes spans pages old new = (s : RunningSet) × (old ≡ None) × (new ≡ Some s)
-    × AreWithin bytes spans × IsSetOf (parts_of bytes spans) pages s
+KeptMade bytes spans pages None (Some s) =
+    AreWithin bytes spans × IsSetOf (parts_of bytes spans) pages s
+KeptMade bytes spans pages None None = ⊥
+KeptMade bytes spans pages (Some s) new = ⊥
 
 -- why it does not: it keeps a set already, or there is none of these files
 abbrev pub IsNotMade : List ℕ → List HuxSpan → List ℕ → Option RunningSet → SetRefusal → Type 0
-IsNotMade bytes spans pages old refusal.Full = (s : RunningSet) × (old ≡ Some s)
-IsNotMade bytes spans pages old r = (old ≡ None) × IsUnmadeParts bytes spans pages r
+IsNotMade bytes spans pages (Some s) r = r ≡ refusal.Full
+IsNotMade bytes spans pages None r = IsUnmadeParts bytes spans pages r
 
 abbrev pub IsMade : List ℕ → List HuxSpan → List ℕ → Option RunningSet → Option RunningSet
     → Result (Unit {0}) SetRefusal → Type 0

@@ -1,8 +1,8 @@
 //! Core values in numbers.
 
 ghost use Rattle.std.specs.Prelude.{◌≡◌, IfErr, IfOk, OnOk, map};
-ghost use Rattle.huxarte_c_calls.specs.Texts.{written};
-ghost use Rattle.huxarte_c_sets.specs.Cores.{AreKinds, IsCoresFault, core_of, placed, value_of};
+ghost use Rattle.huxarte_c_sets.specs.Cores.{value_of};
+ghost use Rattle.huxarte_c_sets.specs.Cores.{AreKinds, IsCoresFault, core_at, core_of, placed};
 
 use crate::refusal::SetRefusal;
 use cm_types::CoreValue;
@@ -72,12 +72,13 @@ pub(crate) fn values_of(alloc: Global, cores: &[HuxCore]) -> Result<Vec<CoreValu
     Ok(values)
 }
 
-/// Writes core values in numbers into the front of a room, as many as it has room for.
-fn put_cores(room: &mut [HuxCore], values: &[CoreValue])
-    ensures { room.new ≡ written room.old (map core_of values.now) }
+/// The core value at a place in numbers, 0 of 32 bits where there is none.
+fn core_at(values: &[CoreValue], place: usize) -> HuxCore
+    ensures { result ≡ core_at values.now place }
 {
-    for at in 0..values.len().min(room.len()) {
-        room[at] = HuxCore::of(values[at]);
+    match values.get(place).copied() {
+        Some(value) => HuxCore::of(value),
+        None => HuxCore { bits: 0, kind: 0 },
     }
 }
 
@@ -85,7 +86,22 @@ fn put_cores(room: &mut [HuxCore], values: &[CoreValue])
 pub(crate) fn placed(values: &[CoreValue]) -> [HuxCore; HUX_MAX_CORE]
     ensures { result ≡ placed values.now }
 {
-    let mut room = [HuxCore { bits: 0, kind: 0 }; HUX_MAX_CORE];
-    put_cores(&mut room, values);
-    room
+    [
+        core_at(values, 0),
+        core_at(values, 1),
+        core_at(values, 2),
+        core_at(values, 3),
+        core_at(values, 4),
+        core_at(values, 5),
+        core_at(values, 6),
+        core_at(values, 7),
+        core_at(values, 8),
+        core_at(values, 9),
+        core_at(values, 10),
+        core_at(values, 11),
+        core_at(values, 12),
+        core_at(values, 13),
+        core_at(values, 14),
+        core_at(values, 15),
+    ]
 }
