@@ -4,12 +4,13 @@ ghost use Rattle.std.specs.Prelude.{◌≡◌, None, length, map};
 ghost use Rattle.cm_machine_model.specs.Moves.{CallsWith, ReturnsWith, WritesAt};
 ghost use Rattle.cm_machine_model.specs.declared.moves.Move.TheVariants as moves;
 ghost use Rattle.huxarte_c_sets.specs.Cores.{value_of};
+ghost use Rattle.huxarte_c_calls.specs.Verdicts.{verdict_by};
 ghost use Rattle.huxarte_c_sets.specs.Kept.{Begins, IsDoneVerdict, IsNoBegin, IsNoCoreMove};
-ghost use Rattle.huxarte_c_sets.specs.Kept.{IsNoListMove, IsNoMove, IsSeenVerdict, Moves};
-ghost use Rattle.huxarte_c_sets.specs.Looking.{IsEmpty, IsNoHandle, IsNoInstance, IsNoPart};
-ghost use Rattle.huxarte_c_sets.specs.Looking.{KeepsHandle, KeepsInstance, KeepsPart, KeepsState};
-ghost use Rattle.huxarte_c_sets.specs.Looking.{resource_of};
+ghost use Rattle.huxarte_c_sets.specs.Kept.{IsNoListMove, IsNoMove, Moves};
+ghost use Rattle.huxarte_c_sets.specs.Looking.{handle_seen, instance_seen, part_seen};
+ghost use Rattle.huxarte_c_sets.specs.Looking.{state_seen, told_or};
 ghost use Rattle.huxarte_c_sets.specs.Making.{IsNewVerdict};
+ghost use Rattle.huxarte_c_sets.specs.Refused.{of_set};
 
 use huxarte_c_calls::{HuxHandle, HuxSpan, HuxVerdict};
 use huxarte_c_sets::{
@@ -60,8 +61,7 @@ pub extern "C" fn hux_set_begin(
     event: &mut HuxEvent,
 ) -> HuxVerdict
     ensures { IsDoneVerdict (Begins set.old.kept instance) (IsNoBegin set.old.kept instance)
-        (record { kept = set.old.kept; event = event.old })
-        (record { kept = set.new.kept; event = event.new }) result }
+        set.old.kept set.new.kept event.old event.new result }
 {
     begin(alloc, set, instance, event)
 }
@@ -78,8 +78,7 @@ pub extern "C" fn hux_set_write(
 ) -> HuxVerdict
     ensures { IsDoneVerdict (Moves (WritesAt at bytes.now) set.old.kept)
         (IsNoListMove set.old.kept)
-        (record { kept = set.old.kept; event = event.old })
-        (record { kept = set.new.kept; event = event.new }) result }
+        set.old.kept set.new.kept event.old event.new result }
 {
     write(alloc, set, at, bytes, event)
 }
@@ -94,8 +93,7 @@ pub extern "C" fn hux_set_grow(
 ) -> HuxVerdict
     ensures { IsDoneVerdict (Moves (λ m. m ≡ moves.Grow pages) set.old.kept)
         (IsNoMove set.old.kept)
-        (record { kept = set.old.kept; event = event.old })
-        (record { kept = set.new.kept; event = event.new }) result }
+        set.old.kept set.new.kept event.old event.new result }
 {
     grow(alloc, set, pages, event)
 }
@@ -114,8 +112,7 @@ pub extern "C" fn hux_set_call(
 ) -> HuxVerdict
     ensures { IsDoneVerdict (Moves (CallsWith func (map value_of args.now)) set.old.kept)
         (IsNoCoreMove args.now set.old.kept)
-        (record { kept = set.old.kept; event = event.old })
-        (record { kept = set.new.kept; event = event.new }) result }
+        set.old.kept set.new.kept event.old event.new result }
 {
     call(alloc, set, func, args, event)
 }
@@ -131,8 +128,7 @@ pub extern "C" fn hux_set_return(
 ) -> HuxVerdict
     ensures { IsDoneVerdict (Moves (ReturnsWith (map value_of values.now)) set.old.kept)
         (IsNoCoreMove values.now set.old.kept)
-        (record { kept = set.old.kept; event = event.old })
-        (record { kept = set.new.kept; event = event.new }) result }
+        set.old.kept set.new.kept event.old event.new result }
 {
     give(alloc, set, values, event)
 }
@@ -146,8 +142,7 @@ pub extern "C" fn hux_set_unreachable(
 ) -> HuxVerdict
     ensures { IsDoneVerdict (Moves (λ m. m ≡ moves.Unreachable) set.old.kept)
         (IsNoMove set.old.kept)
-        (record { kept = set.old.kept; event = event.old })
-        (record { kept = set.new.kept; event = event.new }) result }
+        set.old.kept set.new.kept event.old event.new result }
 {
     stop(alloc, set, event)
 }
@@ -163,8 +158,10 @@ pub extern "C" fn hux_set_state(
     set: &mut HuxSet,
     seen: &mut HuxSetState,
 ) -> HuxVerdict
-    ensures verdict { IsSeenVerdict (KeepsState set.old.kept) (IsEmpty set.old.kept)
-        seen.old seen.new result }
+    ensures verdict { result ≡ verdict_by of_set
+        (state_seen set.old.kept) }
+    ensures seen { seen.new
+        ≡ told_or seen.old (state_seen set.old.kept) }
     ensures kept { set.new.kept ≡ set.old.kept }
 {
     state(alloc, set, seen)
@@ -180,8 +177,10 @@ pub extern "C" fn hux_set_instance(
     number: u32,
     seen: &mut HuxInstance,
 ) -> HuxVerdict
-    ensures verdict { IsSeenVerdict (KeepsInstance set.old.kept number)
-        (IsNoInstance set.old.kept number) seen.old seen.new result }
+    ensures verdict { result ≡ verdict_by of_set
+        (instance_seen set.old.kept number) }
+    ensures seen { seen.new
+        ≡ told_or seen.old (instance_seen set.old.kept number) }
     ensures kept { set.new.kept ≡ set.old.kept }
 {
     instance(alloc, set, number, seen)
@@ -199,8 +198,10 @@ pub extern "C" fn hux_set_read(
     at: usize,
     into: &mut [u8],
 ) -> HuxVerdict
-    ensures verdict { IsSeenVerdict (KeepsPart set.old.kept number at)
-        (IsNoPart set.old.kept number at (length into.old)) into.old into.new result }
+    ensures verdict { result ≡ verdict_by of_set
+        (part_seen set.old.kept number at (length into.old)) }
+    ensures seen { into.new
+        ≡ told_or into.old (part_seen set.old.kept number at (length into.old)) }
     ensures kept { set.new.kept ≡ set.old.kept }
 {
     read(alloc, set, number, at, into)
@@ -221,10 +222,10 @@ pub extern "C" fn hux_set_handle(
     resource: &HuxResource,
     seen: &mut HuxHandle,
 ) -> HuxVerdict
-    ensures verdict { IsSeenVerdict
-        (KeepsHandle set.old.kept number index (resource_of resource.now))
-        (IsNoHandle set.old.kept number index (resource_of resource.now))
-        seen.old seen.new result }
+    ensures verdict { result ≡ verdict_by of_set
+        (handle_seen set.old.kept number index resource.now) }
+    ensures seen { seen.new
+        ≡ told_or seen.old (handle_seen set.old.kept number index resource.now) }
     ensures kept { set.new.kept ≡ set.old.kept }
 {
     handle(alloc, set, number, index, resource, seen)

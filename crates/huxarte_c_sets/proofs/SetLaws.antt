@@ -1,7 +1,6 @@
--- What is told of a set, and sets of the components of files.
-use Rattle.std.proofs.Common.{◌≡◌, List, ℕ, refl, subst, sym, Result, Ok, Err, IfErr, IfOk, Option, Some, None, is_some, true, false}
+-- Moves of a set, and sets of the components of files.
+use Rattle.std.proofs.Common.{◌≡◌, List, ℕ, refl, subst, sym, Result, Ok, Err, IfErr, IfOk, Option, Some, None}
 use Rattle.std.specs.List.{AllByRecursion}
-use Rattle.cm_lemmas.proofs.Bools.{false_not_true, true_not_false}
 use Rattle.cm_machine_model.specs.declared.moves.Move.{Move}
 use Rattle.cm_machine_set.specs.Running.{IsNew, RunningSet}
 use Rattle.cm_match_model.specs.Links.{CanBeLinked}
@@ -11,36 +10,57 @@ use Rattle.huxarte_c_calls.specs.declared.spans.HuxSpan.{HuxSpan}
 use Rattle.huxarte_c_calls.specs.Spans.{AreWithin, parts_of}
 use Rattle.huxarte_c_components.proofs.LinkLaws.{part_refused, stop_is}
 use Rattle.huxarte_c_components.specs.Linking.{CanLink, spaces_read}
-use Rattle.huxarte_c_sets.specs.Kept.{IsDone, IsSeen, Moves, Told}
+use Rattle.huxarte_c_sets.specs.Cores.{AreKinds, IsCoresFault}
+use Rattle.huxarte_c_sets.specs.Kept.{IsDone, IsNoCoreMove, IsNoListMove, IsNoMove, Moves}
 use Rattle.huxarte_c_sets.specs.Making.{IsSetLinked, IsSetOf, IsUnmade, IsUnmadeBy, IsUnmadeLinked, IsUnmadeOf, IsUnmadeParts}
+use Rattle.huxarte_c_sets.specs.declared.cores.HuxCore.{HuxCore}
+use Rattle.huxarte_c_sets.specs.declared.event.HuxEvent.{HuxEvent}
 use Rattle.huxarte_c_sets.specs.declared.refusal.SetRefusal.{SetRefusal}
 use Rattle.huxarte_c_sets.specs.declared.refusal.SetRefusal.TheVariants as refusal
 
--- ---- what is told
-
-pub seen_is : {A : Type 0} (Shows : A → Type 0) (Why : SetRefusal → Type 0) (found : Result A SetRefusal) (old new : A) (r : Result (Unit {0}) SetRefusal)
-    → IfOk found (λ s. (new ≡ s) × (r ≡ Ok tt)) → IfErr found (λ e. (new ≡ old) × (r ≡ Err e)) → IfOk found Shows → IfErr found Why → IsSeen Shows Why old new r
-seen_is Shows Why (Ok s) old new r told refused shows why =
-    subst (λ (o : Result (Unit {0}) SetRefusal). IsSeen Shows Why old new o) (sym told.1) (subst Shows (sym told.0) shows)
-seen_is Shows Why (Err e) old new r told refused shows why =
-    subst (λ (o : Result (Unit {0}) SetRefusal). IsSeen Shows Why old new o) (sym refused.1) (refused.0, why)
+-- ---- moves
 
 -- a move of a form, where there may be more reasons to make none
-pub moved_by : (IsMove : Move → Type 0) (Why Whys : SetRefusal → Type 0) (m : Move) (kept : Option RunningSet) (old new : Told) (r : Result (Unit {0}) SetRefusal)
-    → IsMove m → ((e : SetRefusal) → Why e → Whys e) → IsDone (Moves (λ x. x ≡ m) kept) Why old new r → IsDone (Moves IsMove kept) Whys old new r
-moved_by IsMove Why Whys m kept old new (Ok v) is more done =
+pub moved_by : (IsMove : Move → Type 0) (Why Whys : SetRefusal → Type 0) (m : Move) (old new : Option RunningSet) (before after : HuxEvent) (r : Result (Unit {0}) SetRefusal)
+    → IsMove m → ((e : SetRefusal) → Why e → Whys e) → IsDone (Moves (λ x. x ≡ m) old) Why old new before after r → IsDone (Moves IsMove old) Whys old new before after r
+moved_by IsMove Why Whys m old new before after (Ok v) is more done =
     (done.0, (done.1.0.0, subst IsMove (sym done.1.0.1.0) is, done.1.0.1.1), done.1.1)
-moved_by IsMove Why Whys m kept old new (Err e) is more done = (done.0, more e done.1)
+moved_by IsMove Why Whys m old new before after (Err e) is more done = (done.0, done.1.0, more e done.1.1)
 
--- ---- what is kept
+pub list_why : (old : Option RunningSet) (e : SetRefusal) → IsNoMove old e → IsNoListMove old e
+list_why None e why = subst (λ (r : SetRefusal). IsNoListMove None r) (sym why) refl
+list_why (Some s) (refusal.Misuse m) why = why
+list_why (Some s) refusal.Memory why = tt
+list_why (Some s) refusal.Empty why = absurd why
+list_why (Some s) refusal.Full why = absurd why
+list_why (Some s) (refusal.Link r) why = absurd why
+list_why (Some s) (refusal.NoKind k) why = absurd why
+list_why (Some s) refusal.NoInstance why = absurd why
+list_why (Some s) refusal.Outside why = absurd why
+list_why (Some s) (refusal.NoHandle f) why = absurd why
 
-pub some_is : {A : Type 0} (o : Option A) → is_some o ≡ true → (s : A) × (o ≡ Some s)
-some_is (Some s) e = (s, refl)
-some_is None e = absurd (false_not_true e)
+pub core_why : (cores : List HuxCore) (old : Option RunningSet) → AreKinds cores → (e : SetRefusal) → IsNoMove old e → IsNoCoreMove cores old e
+core_why cores None kinds e why = subst (λ (r : SetRefusal). IsNoCoreMove cores None r) (sym why) (kinds, refl)
+core_why cores (Some s) kinds (refusal.Misuse m) why = (kinds, why)
+core_why cores (Some s) kinds refusal.Memory why = tt
+core_why cores (Some s) kinds refusal.Empty why = absurd why
+core_why cores (Some s) kinds refusal.Full why = absurd why
+core_why cores (Some s) kinds (refusal.Link r) why = absurd why
+core_why cores (Some s) kinds (refusal.NoKind k) why = absurd why
+core_why cores (Some s) kinds refusal.NoInstance why = absurd why
+core_why cores (Some s) kinds refusal.Outside why = absurd why
+core_why cores (Some s) kinds (refusal.NoHandle f) why = absurd why
 
-pub none_is : {A : Type 0} (o : Option A) → is_some o ≡ false → o ≡ None
-none_is None e = refl
-none_is (Some s) e = absurd (true_not_false e)
+pub cores_why : (cores : List HuxCore) (old : Option RunningSet) (e : SetRefusal) → IsCoresFault cores e → IsNoCoreMove cores old e
+cores_why cores old (refusal.NoKind k) why = why
+cores_why cores old refusal.Memory why = tt
+cores_why cores old (refusal.Misuse m) why = absurd why
+cores_why cores old refusal.Empty why = absurd why
+cores_why cores old refusal.Full why = absurd why
+cores_why cores old (refusal.Link r) why = absurd why
+cores_why cores old refusal.NoInstance why = absurd why
+cores_why cores old refusal.Outside why = absurd why
+cores_why cores old (refusal.NoHandle f) why = absurd why
 
 -- ---- sets of files
 

@@ -1,6 +1,6 @@
 -- Core values in numbers (this project's own choice).
-use Rattle.std.specs.Prelude.{◌≡◌, ⊤, ◌<◌, ◌%◌, ◌^◌, ℕ, zero, suc, List, [], ◌∷◌, Option, None, Some}
-use Rattle.std.specs.Prelude.{slice_get, take}
+use Rattle.std.specs.Prelude.{◌≡◌, ⊤, ◌<◌, ◌%◌, ◌^◌, ℕ, zero, suc, List, [], ◌∷◌, Option, None}
+use Rattle.std.specs.Prelude.{Some, slice_get, take}
 use Rattle.std.specs.List.{AllByRecursion}
 use Rattle.cm_types.specs.declared.core_value.CoreValue.{CoreValue}
 use Rattle.cm_types.specs.declared.core_value.CoreValue.TheVariants.{I32, I64}

@@ -1,6 +1,5 @@
 -- What the calls do to the set that a handle keeps.
-use Rattle.std.specs.Prelude.{◌≡◌, ⊤, ◌≤◌, ◌+◌, ℕ, List, [], Option, Some, None, Result, Ok, Err}
-use Rattle.std.specs.Prelude.{drop, length, slice_get, take}
+use Rattle.std.specs.Prelude.{◌≡◌, ⊤, ℕ, List, [], Option, Some, None, Result, Ok, Err}
 use Rattle.cm_machine_model.specs.declared.event.Event.{Event}
 use Rattle.cm_machine_model.specs.declared.event.Event.TheVariants as event
 use Rattle.cm_machine_model.specs.declared.event.Misuse.{Misuse}
@@ -65,22 +64,19 @@ IsNoCoreMove cores old (refusal.NoKind place) = IsUnknownAt cores place
 IsNoCoreMove cores old refusal.Memory = ⊤
 IsNoCoreMove cores old r = AreKinds cores × IsNoMove old r
 
--- what a handle keeps, and the event that was told last
-pub record Told : Type 0 where
-  pub kept : Option RunningSet
-  pub event : HuxEvent
-
--- What a call comes to that makes something of which this holds happen: it has happened, and its
--- event is told; or nothing has changed, for such a reason.
-abbrev pub IsDone : (Event → Option RunningSet → Type 0) → (SetRefusal → Type 0) → Told → Told
+-- What a call comes to that makes something of which this holds happen to a set: it has happened,
+-- and its event is told; or nothing has changed, for such a reason.
+abbrev pub IsDone : (Event → Option RunningSet → Type 0) → (SetRefusal → Type 0)
+    → Option RunningSet → Option RunningSet → HuxEvent → HuxEvent
     → Result (Unit {0}) SetRefusal → Type 0
-IsDone Happens Why old new (Ok _) = (e : Event) × Happens e new.kept × (new.event ≡ event_in e)
-IsDone Happens Why old new (Err r) = (new ≡ old) × Why r
+IsDone Happens Why old new before after (Ok _) =
+    (e : Event) × Happens e new × (after ≡ event_in e)
+IsDone Happens Why old new before after (Err r) = (new ≡ old) × (after ≡ before) × Why r
 
-abbrev pub IsDoneVerdict : (Event → Option RunningSet → Type 0) → (SetRefusal → Type 0) → Told
-    → Told → HuxVerdict → Type 0
-IsDoneVerdict Happens Why old new v =
-    (o : Result (Unit {0}) SetRefusal) × IsDone Happens Why old new o × (v ≡ verdict_by of_set o)
+abbrev pub IsDoneVerdict : (Event → Option RunningSet → Type 0) → (SetRefusal → Type 0)
+    → Option RunningSet → Option RunningSet → HuxEvent → HuxEvent → HuxVerdict → Type 0
+IsDoneVerdict Happens Why old new before after v = (o : Result (Unit {0}) SetRefusal)
+    × IsDone Happens Why old new before after o × (v ≡ verdict_by of_set o)
 
 -- a root call begins
 abbrev pub Begins : Option RunningSet → ℕ → Event → Option RunningSet → Type 0
@@ -89,17 +85,3 @@ Begins old instance e new = (e ≡ event.Resume instance []) × KeptBegins old i
 -- a move of this form is made
 abbrev pub Moves : (Move → Type 0) → Option RunningSet → Event → Option RunningSet → Type 0
 Moves IsMove old e new = (m : Move) × IsMove m × KeptSteps old m e new
-
--- ---- looks
-
--- What a call comes to that looks at a set and tells what it sees: that is told; or what was there
--- before stays, for such a reason. The set stays in any case.
-abbrev pub IsSeen : {A : Type 0} → (A → Type 0) → (SetRefusal → Type 0) → A → A
-    → Result (Unit {0}) SetRefusal → Type 0
-IsSeen Shows Why old new (Ok _) = Shows new
-IsSeen Shows Why old new (Err r) = (new ≡ old) × Why r
-
-abbrev pub IsSeenVerdict : {A : Type 0} → (A → Type 0) → (SetRefusal → Type 0) → A → A
-    → HuxVerdict → Type 0
-IsSeenVerdict Shows Why old new v =
-    (o : Result (Unit {0}) SetRefusal) × IsSeen Shows Why old new o × (v ≡ verdict_by of_set o)

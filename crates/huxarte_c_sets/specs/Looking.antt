@@ -1,15 +1,15 @@
 -- What the calls tell of the set that a handle keeps.
-use Rattle.std.specs.Prelude.{◌≡◌, ◌≤◌, ◌+◌, ℕ, List, Option, Some, None, Ok, Err, Bool, true}
-use Rattle.std.specs.Prelude.{drop, false, length, min, slice_get, take}
+use Rattle.std.specs.Prelude.{ℕ, ◌+◌, List, Option, Some, None, Result, Ok, Err, Bool, true, false}
+use Rattle.std.specs.Prelude.{drop, if◌then◌else◌, leb, length, min, slice_get, take}
 use Rattle.std.specs.Option.{option_map}
 use Rattle.cm_handles.specs.Handles.{Handles, look_up}
+use Rattle.cm_handles.specs.declared.fault.HandleFault.{HandleFault}
 use Rattle.cm_handles.specs.declared.handle.Handle.{Handle}
 use Rattle.cm_handles.specs.declared.handle.HandleKind.{HandleKind}
 use Rattle.cm_handles.specs.declared.handle.HandleKind.TheVariants.{Borrowed, Owned}
-use Rattle.cm_machine_model.specs.State.{is_closed}
 use Rattle.cm_machine_model.specs.Stack.{actor, top_of}
+use Rattle.cm_machine_model.specs.State.{is_closed}
 use Rattle.cm_machine_model.specs.Work.{work_of}
-use Rattle.cm_machine_model.specs.declared.frame.Work.{Work}
 use Rattle.cm_machine_set.specs.Running.{RunningSet}
 use Rattle.cm_types.specs.declared.resource.ResourceId.{ResourceId}
 use Rattle.huxarte_c_calls.specs.declared.handles.HuxHandle.{HuxHandle}
@@ -18,6 +18,17 @@ use Rattle.huxarte_c_sets.specs.declared.looking.HuxResource.{HuxResource}
 use Rattle.huxarte_c_sets.specs.declared.looking.HuxSetState.{HuxSetState}
 use Rattle.huxarte_c_sets.specs.declared.refusal.SetRefusal.{SetRefusal}
 use Rattle.huxarte_c_sets.specs.declared.refusal.SetRefusal.TheVariants as refusal
+
+-- what is seen of the set that a handle keeps, if it keeps one
+abbrev pub looked : {A : Type 0} → (RunningSet → Result A SetRefusal) → Option RunningSet
+    → Result A SetRefusal
+looked see None = Err refusal.Empty
+looked see (Some s) = see s
+
+-- what stands in the place for it then: where nothing is seen, what stood there before
+abbrev pub told_or : {A : Type 0} → A → Result A SetRefusal → A
+told_or before (Ok seen) = seen
+told_or before (Err r) = before
 
 -- ---- the whole
 
@@ -36,14 +47,8 @@ state_in s = record {
   lends = (work_of s.state).lends;
 }
 
-abbrev pub KeepsState : Option RunningSet → HuxSetState → Type 0
-KeepsState None seen = ⊥
-KeepsState (Some s) seen = seen ≡ state_in s
-
--- why it is not told: there is no set
-abbrev pub IsEmpty : Option RunningSet → SetRefusal → Type 0
-IsEmpty None r = r ≡ refusal.Empty
-IsEmpty (Some s) r = ⊥
+abbrev pub state_seen : Option RunningSet → Result HuxSetState SetRefusal
+state_seen kept = looked (λ s. Ok (state_in s)) kept
 
 -- ---- an instance
 
@@ -52,60 +57,45 @@ abbrev pub flag : Bool → ℕ
 flag true = 1
 flag false = 0
 
--- an instance of a set, by its memory
-abbrev pub instance_in : RunningSet → ℕ → List ℕ → HuxInstance
-instance_in s instance memory =
-    record { bytes = length memory; closed = flag (is_closed s.state instance) }
+-- an instance, where it has a memory: how many bytes, and whether it is closed
+abbrev pub instance_by : Bool → Option (List ℕ) → Result HuxInstance SetRefusal
+instance_by closed None = Err refusal.NoInstance
+instance_by closed (Some memory) =
+    Ok (record { bytes = length memory; closed = flag closed })
 
-abbrev pub IsInstance : RunningSet → ℕ → HuxInstance → Type 0
-IsInstance s instance seen = (memory : List ℕ)
-    × (slice_get s.state.memories instance ≡ Some memory) × (seen ≡ instance_in s instance memory)
+abbrev pub instance_in : ℕ → RunningSet → Result HuxInstance SetRefusal
+instance_in instance s =
+    instance_by (is_closed s.state instance) (slice_get s.state.memories instance)
 
-abbrev pub KeepsInstance : Option RunningSet → ℕ → HuxInstance → Type 0
-KeepsInstance None instance seen = ⊥
-KeepsInstance (Some s) instance seen = IsInstance s instance seen
-
--- why it is not told: there is no set, or it has no such instance
-abbrev pub IsNoInstance : Option RunningSet → ℕ → SetRefusal → Type 0
-IsNoInstance None instance r = r ≡ refusal.Empty
-IsNoInstance (Some s) instance r =
-    (r ≡ refusal.NoInstance) × (slice_get s.state.memories instance ≡ None)
+abbrev pub instance_seen : Option RunningSet → ℕ → Result HuxInstance SetRefusal
+instance_seen kept instance = looked (instance_in instance) kept
 
 -- ---- bytes of a memory
 
--- these bytes stand at `at` in a memory
-pub record IsPart (memory : List ℕ) (at : ℕ) (part : List ℕ) : Type 0 where
-  pub within : at + length part ≤ length memory
-  pub is : part ≡ take (length part) (drop at memory)
+-- so many bytes of a memory from `at` on, where it has them
+abbrev pub part_by : ℕ → ℕ → Option (List ℕ) → Result (List ℕ) SetRefusal
+part_by at count None = Err refusal.NoInstance
+part_by at count (Some memory) = if leb (at + count) (length memory)
+    then Ok (take count (drop at memory)) else Err refusal.Outside
 
--- they stand there in the memory of an instance of a set
-abbrev pub IsPartOf : RunningSet → ℕ → ℕ → List ℕ → Type 0
-IsPartOf s instance at part = (memory : List ℕ)
-    × (slice_get s.state.memories instance ≡ Some memory) × IsPart memory at part
+abbrev pub part_in : ℕ → ℕ → ℕ → RunningSet → Result (List ℕ) SetRefusal
+part_in instance at count s = part_by at count (slice_get s.state.memories instance)
 
--- why so many bytes do not
-abbrev pub IsNoPartOf : RunningSet → ℕ → ℕ → ℕ → SetRefusal → Type 0
-IsNoPartOf s instance at count refusal.NoInstance = slice_get s.state.memories instance ≡ None
-IsNoPartOf s instance at count refusal.Outside = (memory : List ℕ)
-    × (slice_get s.state.memories instance ≡ Some memory)
-    × (at + count ≤ length memory → ⊥)
-IsNoPartOf s instance at count _ = ⊥
-
-abbrev pub KeepsPart : Option RunningSet → ℕ → ℕ → List ℕ → Type 0
-KeepsPart None instance at part = ⊥
-KeepsPart (Some s) instance at part = IsPartOf s instance at part
-
-abbrev pub IsNoPart : Option RunningSet → ℕ → ℕ → ℕ → SetRefusal → Type 0
-IsNoPart None instance at count r = r ≡ refusal.Empty
-IsNoPart (Some s) instance at count r = IsNoPartOf s instance at count r
+abbrev pub part_seen : Option RunningSet → ℕ → ℕ → ℕ → Result (List ℕ) SetRefusal
+part_seen kept instance at count = looked (part_in instance at count) kept
 
 -- ---- a handle
 
--- a handle in numbers: so many lends as fit
+-- the resource of these numbers
+abbrev pub resource_of : HuxResource → ResourceId
+resource_of r = record { component = r.component; number = r.number }
+
+-- whether a handle is owned, and which call borrowed it
 abbrev pub kind_numbers : HandleKind → ℕ × ℕ
 kind_numbers Owned = (1, 0)
 kind_numbers (Borrowed call) = (0, call)
 
+-- a handle in numbers: so many lends as fit
 abbrev pub handle_told : Handle → HuxHandle
 handle_told h = record {
   number = h.resource.number;
@@ -117,29 +107,21 @@ handle_told h = record {
   call = (kind_numbers h.kind).1;
 }
 
--- the resource of these numbers
-abbrev pub resource_of : HuxResource → ResourceId
-resource_of r = record { component = r.component; number = r.number }
+-- what a table says
+abbrev pub handle_by : Result Handle HandleFault → Result HuxHandle SetRefusal
+handle_by (Ok h) = Ok (handle_told h)
+handle_by (Err f) = Err (refusal.NoHandle f)
 
--- a handle of a set, at an index of the table of an instance
-abbrev pub IsHandle : RunningSet → ℕ → ℕ → ResourceId → HuxHandle → Type 0
-IsHandle s instance index resource seen = (handles : Handles) (h : Handle)
-    × (slice_get s.state.tables instance ≡ Some handles)
-    × (look_up handles index resource ≡ Ok h) × (seen ≡ handle_told h)
+-- the handle at an index of the table of an instance, which is to be of a resource
+abbrev pub handle_of : ℕ → ResourceId → Option Handles → Result HuxHandle SetRefusal
+handle_of index resource None = Err refusal.NoInstance
+handle_of index resource (Some handles) = handle_by (look_up handles index resource)
 
--- why there is none
-abbrev pub IsNoHandleOf : RunningSet → ℕ → ℕ → ResourceId → SetRefusal → Type 0
-IsNoHandleOf s instance index resource refusal.NoInstance =
-    slice_get s.state.tables instance ≡ None
-IsNoHandleOf s instance index resource (refusal.NoHandle f) = (handles : Handles)
-    × (slice_get s.state.tables instance ≡ Some handles)
-    × (look_up handles index resource ≡ Err f)
-IsNoHandleOf s instance index resource _ = ⊥
+abbrev pub handle_in : ℕ → ℕ → ResourceId → RunningSet → Result HuxHandle SetRefusal
+handle_in instance index resource s =
+    handle_of index resource (slice_get s.state.tables instance)
 
-abbrev pub KeepsHandle : Option RunningSet → ℕ → ℕ → ResourceId → HuxHandle → Type 0
-KeepsHandle None instance index resource seen = ⊥
-KeepsHandle (Some s) instance index resource seen = IsHandle s instance index resource seen
-
-abbrev pub IsNoHandle : Option RunningSet → ℕ → ℕ → ResourceId → SetRefusal → Type 0
-IsNoHandle None instance index resource r = r ≡ refusal.Empty
-IsNoHandle (Some s) instance index resource r = IsNoHandleOf s instance index resource r
+abbrev pub handle_seen : Option RunningSet → ℕ → ℕ → HuxResource
+    → Result HuxHandle SetRefusal
+handle_seen kept instance index resource =
+    looked (handle_in instance index (resource_of resource)) kept

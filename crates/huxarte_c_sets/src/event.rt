@@ -1,6 +1,7 @@
 //! Events in numbers.
 
 ghost use Rattle.std.specs.Prelude.{◌≡◌, []};
+ghost use Rattle.cm_machine_model.specs.declared.event.Event.TheVariants as event;
 ghost use Rattle.cm_machine_parts.specs.Rows.{event_of};
 ghost use Rattle.huxarte_c_sets.specs.Events.{event_in, event_with, grown_number, plain_event};
 
@@ -70,6 +71,13 @@ fn grown_number(pages: Option<u32>) -> u32
 }
 
 impl HuxEvent {
+    /// A root call of an instance has begun.
+    pub(crate) fn resumed(instance: u32) -> HuxEvent
+        ensures { result ≡ event_in (event.Resume instance []) }
+    {
+        event_with(4, instance, 0, &Flat::new())
+    }
+
     /// The event of an outcome, with these core values.
     pub(crate) fn of(outcome: Outcome, values: &Flat) -> HuxEvent
         ensures { result ≡ event_in (event_of outcome values.now) }

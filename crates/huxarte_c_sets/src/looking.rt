@@ -1,13 +1,13 @@
 //! What a set is seen to be.
 
-ghost use Rattle.std.specs.Prelude.{◌≡◌, ◌≤◌, ◌+◌, Err, IfErr, IfNone, IfOk, IfSome, None, Ok};
-ghost use Rattle.std.specs.Prelude.{OnErr, OnOk, length, slice_get};
-ghost use Rattle.huxarte_c_sets.specs.Kept.{IsSeen, IsSeenVerdict};
-ghost use Rattle.huxarte_c_sets.specs.Looking.{IsEmpty, IsHandle, IsInstance, IsNoHandle};
-ghost use Rattle.huxarte_c_sets.specs.Looking.{IsNoHandleOf, IsNoInstance, IsNoPart, IsNoPartOf};
-ghost use Rattle.huxarte_c_sets.specs.Looking.{IsPart, IsPartOf, KeepsHandle, KeepsInstance};
-ghost use Rattle.huxarte_c_sets.specs.Looking.{KeepsPart, KeepsState, acting_number, flag};
-ghost use Rattle.huxarte_c_sets.specs.Looking.{handle_told, resource_of, state_in};
+ghost use Rattle.std.specs.Prelude.{◌≡◌, length};
+ghost use Rattle.std.specs.Option.{option_copied};
+ghost use Rattle.huxarte_c_calls.specs.Verdicts.{verdict_by};
+ghost use Rattle.huxarte_c_sets.specs.Looking.{acting_number, flag, handle_in, handle_seen};
+ghost use Rattle.huxarte_c_sets.specs.Looking.{handle_told, instance_in, instance_seen};
+ghost use Rattle.huxarte_c_sets.specs.Looking.{part_by, part_seen, resource_of};
+ghost use Rattle.huxarte_c_sets.specs.Looking.{state_in, state_seen, told_or};
+ghost use Rattle.huxarte_c_sets.specs.Refused.{of_set};
 
 use crate::hux_set::HuxSet;
 use crate::refusal::{SetRefusal, verdict};
@@ -90,8 +90,7 @@ fn state_in(set: &Set) -> HuxSetState
 
 /// The set that is kept, as a whole.
 fn look(alloc: Global, set: &mut HuxSet) -> Result<HuxSetState, SetRefusal>
-    ensures state { IfOk result (KeepsState set.old.kept) }
-    ensures refused { IfErr result (IsEmpty set.old.kept) }
+    ensures seen { result ≡ state_seen set.old.kept }
     ensures kept { set.new.kept ≡ set.old.kept }
 {
     let Some(kept) = set.take(alloc) else {
@@ -109,24 +108,23 @@ fn flag(is_so: bool) -> u32
     u32::from(is_so)
 }
 
-/// An instance of a set, where it has one of the number.
-fn instance_in(set: &Set, instance: u32) -> Option<HuxInstance>
-    ensures seen { IfSome result (IsInstance set.now instance) }
-    ensures none { IfNone result (slice_get set.now.state.memories instance ≡ None) }
+/// An instance of a set.
+fn instance_in(set: &Set, instance: u32) -> Result<HuxInstance, SetRefusal>
+    ensures { result ≡ instance_in instance set.now }
 {
-    let Some(memory) = set.memory(instance) else {
-        return None;
-    };
-    Some(HuxInstance {
-        bytes: memory.len(),
-        closed: flag(set.is_closed(instance).unwrap_or(false)),
-    })
+    let closed = set.is_closed(instance).unwrap_or(false);
+    match set.memory(instance) {
+        Some(memory) => Ok(HuxInstance {
+            bytes: memory.len(),
+            closed: flag(closed),
+        }),
+        None => Err(SetRefusal::NoInstance),
+    }
 }
 
 /// An instance of the set that is kept.
 fn look_at(alloc: Global, set: &mut HuxSet, instance: u32) -> Result<HuxInstance, SetRefusal>
-    ensures seen { IfOk result (KeepsInstance set.old.kept instance) }
-    ensures refused { IfErr result (IsNoInstance set.old.kept instance) }
+    ensures seen { result ≡ instance_seen set.old.kept instance }
     ensures kept { set.new.kept ≡ set.old.kept }
 {
     let Some(kept) = set.take(alloc) else {
@@ -134,56 +132,25 @@ fn look_at(alloc: Global, set: &mut HuxSet, instance: u32) -> Result<HuxInstance
     };
     let seen = instance_in(&kept, instance);
     set.put(alloc, kept);
-    match seen {
-        Some(seen) => Ok(seen),
-        None => Err(SetRefusal::NoInstance),
-    }
+    seen
 }
 
-/// Copies a part of these bytes, where they have it.
-fn copy_part(memory: &[u8], at: usize, into: &mut [u8]) -> Result<(), SetRefusal>
-    ensures copied { OnOk result (IsPart memory.now at into.new) }
-    ensures refused { IfErr result (λ r. (r ≡ SetRefusal.Outside)
-        × (at + length into.old ≤ length memory.now → ⊥)) }
-    ensures stays { OnErr result (into.new ≡ into.old) }
+/// Copies a part of these bytes, where they are there and have it, and answers what it comes to.
+fn copy_part(memory: Option<&[u8]>, at: usize, into: &mut [u8]) -> HuxVerdict
+    ensures verdict { result ≡ verdict_by of_set
+        (part_by at (length into.old) (option_copied memory.entry)) }
+    ensures told { into.new
+        ≡ told_or into.old (part_by at (length into.old) (option_copied memory.entry)) }
 {
+    let Some(memory) = memory else {
+        return verdict(Err(SetRefusal::NoInstance));
+    };
     let length = into.len();
     if at > memory.len() || length > memory.len() - at {
-        return Err(SetRefusal::Outside);
+        return verdict(Err(SetRefusal::Outside));
     }
     into.copy_from_slice(&memory[at..at + length]);
-    Ok(())
-}
-
-/// Copies bytes of the memory of an instance, where there is one.
-fn copy_memory(set: &Set, instance: u32, at: usize, into: &mut [u8]) -> Result<(), SetRefusal>
-    ensures { IsSeen (IsPartOf set.now instance at) (IsNoPartOf set.now instance at
-        (length into.old)) into.old into.new result }
-{
-    match set.memory(instance) {
-        Some(memory) => copy_part(memory, at, into),
-        None => Err(SetRefusal::NoInstance),
-    }
-}
-
-/// Copies bytes of the memory of an instance of the set that is kept.
-fn read_bytes(
-    alloc: Global,
-    set: &mut HuxSet,
-    instance: u32,
-    at: usize,
-    into: &mut [u8],
-) -> Result<(), SetRefusal>
-    ensures seen { IsSeen (KeepsPart set.old.kept instance at) (IsNoPart set.old.kept instance at
-        (length into.old)) into.old into.new result }
-    ensures kept { set.new.kept ≡ set.old.kept }
-{
-    let Some(kept) = set.take(alloc) else {
-        return Err(SetRefusal::Empty);
-    };
-    let copied = copy_memory(&kept, instance, at, into);
-    set.put(alloc, kept);
-    copied
+    verdict(Ok(()))
 }
 
 /// A handle in numbers.
@@ -205,22 +172,21 @@ fn handle_told(handle: Handle) -> HuxHandle
     }
 }
 
-/// The handle of a resource at an index of an instance's table.
+/// The handle at an index of the table of an instance, which is to be of a resource.
 fn handle_in(
     set: &Set,
     instance: u32,
     index: u32,
     resource: ResourceId,
 ) -> Result<HuxHandle, SetRefusal>
-    ensures seen { IfOk result (IsHandle set.now instance index resource) }
-    ensures refused { IfErr result (IsNoHandleOf set.now instance index resource) }
+    ensures { result ≡ handle_in instance index resource set.now }
 {
-    let Some(table) = set.table(instance) else {
-        return Err(SetRefusal::NoInstance);
-    };
-    match table.get(index, resource) {
-        Ok(handle) => Ok(handle_told(handle)),
-        Err(fault) => Err(SetRefusal::NoHandle(fault)),
+    match set.table(instance) {
+        Some(table) => match table.get(index, resource) {
+            Ok(handle) => Ok(handle_told(handle)),
+            Err(fault) => Err(SetRefusal::NoHandle(fault)),
+        },
+        None => Err(SetRefusal::NoInstance),
     }
 }
 
@@ -230,42 +196,41 @@ fn find_handle(
     set: &mut HuxSet,
     instance: u32,
     index: u32,
-    resource: ResourceId,
+    resource: &HuxResource,
 ) -> Result<HuxHandle, SetRefusal>
-    ensures seen { IfOk result (KeepsHandle set.old.kept instance index resource) }
-    ensures refused { IfErr result (IsNoHandle set.old.kept instance index resource) }
+    ensures seen { result ≡ handle_seen set.old.kept instance index resource.now }
     ensures kept { set.new.kept ≡ set.old.kept }
 {
     let Some(kept) = set.take(alloc) else {
         return Err(SetRefusal::Empty);
     };
-    let found = handle_in(&kept, instance, index, resource);
+    let found = handle_in(&kept, instance, index, resource.id());
     set.put(alloc, kept);
     found
 }
 
-/// Puts what was seen into the place for it.
-fn tell<T: Copy>(seen: Result<T, SetRefusal>, to: &mut T) -> Result<(), SetRefusal>
-    ensures told { IfOk seen (λ s. (to.new ≡ s) × (result ≡ Ok tt)) }
-    ensures refused { IfErr seen (λ r. (to.new ≡ to.old) × (result ≡ Err r)) }
+/// Puts what was seen into the place for it, and answers what that comes to.
+fn tell<T: Copy>(found: Result<T, SetRefusal>, to: &mut T) -> HuxVerdict
+    ensures verdict { result ≡ verdict_by of_set found }
+    ensures told { to.new ≡ told_or to.old found }
 {
-    match seen {
+    match found {
         Ok(seen) => {
             *to = seen;
-            Ok(())
+            verdict(Ok(()))
         }
-        Err(refusal) => Err(refusal),
+        Err(refusal) => verdict(Err(refusal)),
     }
 }
 
 /// Tells how many instances there are, whose move is next, and how much is kept of the topmost
 /// call.
 pub fn state(alloc: Global, set: &mut HuxSet, seen: &mut HuxSetState) -> HuxVerdict
-    ensures verdict { IsSeenVerdict (KeepsState set.old.kept) (IsEmpty set.old.kept)
-        seen.old seen.new result }
+    ensures verdict { result ≡ verdict_by of_set (state_seen set.old.kept) }
+    ensures seen { seen.new ≡ told_or seen.old (state_seen set.old.kept) }
     ensures kept { set.new.kept ≡ set.old.kept }
 {
-    verdict(tell(look(alloc, set), seen))
+    tell(look(alloc, set), seen)
 }
 
 /// Tells how many bytes the memory of an instance has, and whether a trap has closed it.
@@ -275,11 +240,11 @@ pub fn instance(
     instance: u32,
     seen: &mut HuxInstance,
 ) -> HuxVerdict
-    ensures verdict { IsSeenVerdict (KeepsInstance set.old.kept instance)
-        (IsNoInstance set.old.kept instance) seen.old seen.new result }
+    ensures verdict { result ≡ verdict_by of_set (instance_seen set.old.kept instance) }
+    ensures seen { seen.new ≡ told_or seen.old (instance_seen set.old.kept instance) }
     ensures kept { set.new.kept ≡ set.old.kept }
 {
-    verdict(tell(look_at(alloc, set, instance), seen))
+    tell(look_at(alloc, set, instance), seen)
 }
 
 /// Copies bytes of the memory of an instance, from `at` on: as many as there is room for.
@@ -290,11 +255,18 @@ pub fn read(
     at: usize,
     into: &mut [u8],
 ) -> HuxVerdict
-    ensures verdict { IsSeenVerdict (KeepsPart set.old.kept instance at)
-        (IsNoPart set.old.kept instance at (length into.old)) into.old into.new result }
+    ensures verdict { result ≡ verdict_by of_set
+        (part_seen set.old.kept instance at (length into.old)) }
+    ensures seen { into.new
+        ≡ told_or into.old (part_seen set.old.kept instance at (length into.old)) }
     ensures kept { set.new.kept ≡ set.old.kept }
 {
-    verdict(read_bytes(alloc, set, instance, at, into))
+    let Some(kept) = set.take(alloc) else {
+        return verdict(Err(SetRefusal::Empty));
+    };
+    let copied = copy_part(kept.memory(instance), at, into);
+    set.put(alloc, kept);
+    copied
 }
 
 /// Tells the handle at an index of an instance's table, which is to be of a resource.
@@ -306,14 +278,11 @@ pub fn handle(
     resource: &HuxResource,
     seen: &mut HuxHandle,
 ) -> HuxVerdict
-    ensures verdict { IsSeenVerdict (KeepsHandle set.old.kept instance index
-        (resource_of resource.now))
-        (IsNoHandle set.old.kept instance index (resource_of resource.now))
-        seen.old seen.new result }
+    ensures verdict { result ≡ verdict_by of_set
+        (handle_seen set.old.kept instance index resource.now) }
+    ensures seen { seen.new
+        ≡ told_or seen.old (handle_seen set.old.kept instance index resource.now) }
     ensures kept { set.new.kept ≡ set.old.kept }
 {
-    verdict(tell(
-        find_handle(alloc, set, instance, index, resource.id()),
-        seen,
-    ))
+    tell(find_handle(alloc, set, instance, index, resource), seen)
 }

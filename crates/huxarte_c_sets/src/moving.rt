@@ -42,12 +42,11 @@ fn begin_told(
     event: &mut HuxEvent,
 ) -> Result<(), SetRefusal>
     ensures { IsDone (Begins set.old.kept instance) (IsNoBegin set.old.kept instance)
-        (record { kept = set.old.kept; event = event.old })
-        (record { kept = set.new.kept; event = event.new }) result }
+        set.old.kept set.new.kept event.old event.new result }
 {
     match begin_root(alloc, set, instance) {
         Ok(()) => {
-            *event = HuxEvent::of(Outcome::Resume { instance }, &Flat::new());
+            *event = HuxEvent::resumed(instance);
             Ok(())
         }
         Err(refusal) => Err(refusal),
@@ -85,8 +84,7 @@ fn make_move(
     event: &mut HuxEvent,
 ) -> Result<(), SetRefusal>
     ensures { IsDone (Moves (λ m. m ≡ made.now) set.old.kept) (IsNoMove set.old.kept)
-        (record { kept = set.old.kept; event = event.old })
-        (record { kept = set.new.kept; event = event.new }) result }
+        set.old.kept set.new.kept event.old event.new result }
 {
     let mut values = Flat::new();
     match step(alloc, set, made, &mut values) {
@@ -107,8 +105,7 @@ fn write_bytes(
     event: &mut HuxEvent,
 ) -> Result<(), SetRefusal>
     ensures { IsDone (Moves (WritesAt at bytes.now) set.old.kept) (IsNoListMove set.old.kept)
-        (record { kept = set.old.kept; event = event.old })
-        (record { kept = set.new.kept; event = event.new }) result }
+        set.old.kept set.new.kept event.old event.new result }
 {
     match Move::write(alloc, at, bytes) {
         Ok(made) => make_move(alloc, set, &made, event),
@@ -126,8 +123,7 @@ fn call_func(
 ) -> Result<(), SetRefusal>
     ensures { IsDone (Moves (CallsWith func (map value_of args.now)) set.old.kept)
         (IsNoCoreMove args.now set.old.kept)
-        (record { kept = set.old.kept; event = event.old })
-        (record { kept = set.new.kept; event = event.new }) result }
+        set.old.kept set.new.kept event.old event.new result }
 {
     match values_of(alloc, args) {
         Ok(args) => make_move(alloc, set, &Move::Call { func, args }, event),
@@ -144,8 +140,7 @@ fn give_values(
 ) -> Result<(), SetRefusal>
     ensures { IsDone (Moves (ReturnsWith (map value_of values.now)) set.old.kept)
         (IsNoCoreMove values.now set.old.kept)
-        (record { kept = set.old.kept; event = event.old })
-        (record { kept = set.new.kept; event = event.new }) result }
+        set.old.kept set.new.kept event.old event.new result }
 {
     match values_of(alloc, values) {
         Ok(values) => make_move(alloc, set, &Move::Return { values }, event),
@@ -160,8 +155,7 @@ fn give_values(
 /// where there is none (4).
 pub fn begin(alloc: Global, set: &mut HuxSet, instance: u32, event: &mut HuxEvent) -> HuxVerdict
     ensures { IsDoneVerdict (Begins set.old.kept instance) (IsNoBegin set.old.kept instance)
-        (record { kept = set.old.kept; event = event.old })
-        (record { kept = set.new.kept; event = event.new }) result }
+        set.old.kept set.new.kept event.old event.new result }
 {
     verdict(begin_told(alloc, set, instance, event))
 }
@@ -176,8 +170,7 @@ pub fn write(
 ) -> HuxVerdict
     ensures { IsDoneVerdict (Moves (WritesAt at bytes.now) set.old.kept)
         (IsNoListMove set.old.kept)
-        (record { kept = set.old.kept; event = event.old })
-        (record { kept = set.new.kept; event = event.new }) result }
+        set.old.kept set.new.kept event.old event.new result }
 {
     verdict(write_bytes(alloc, set, at, bytes, event))
 }
@@ -187,8 +180,7 @@ pub fn write(
 pub fn grow(alloc: Global, set: &mut HuxSet, pages: u32, event: &mut HuxEvent) -> HuxVerdict
     ensures { IsDoneVerdict (Moves (λ m. m ≡ moves.Grow pages) set.old.kept)
         (IsNoMove set.old.kept)
-        (record { kept = set.old.kept; event = event.old })
-        (record { kept = set.new.kept; event = event.new }) result }
+        set.old.kept set.new.kept event.old event.new result }
 {
     verdict(make_move(alloc, set, &Move::Grow { pages }, event))
 }
@@ -203,8 +195,7 @@ pub fn call(
 ) -> HuxVerdict
     ensures { IsDoneVerdict (Moves (CallsWith func (map value_of args.now)) set.old.kept)
         (IsNoCoreMove args.now set.old.kept)
-        (record { kept = set.old.kept; event = event.old })
-        (record { kept = set.new.kept; event = event.new }) result }
+        set.old.kept set.new.kept event.old event.new result }
 {
     verdict(call_func(alloc, set, func, args, event))
 }
@@ -213,8 +204,7 @@ pub fn call(
 pub fn give(alloc: Global, set: &mut HuxSet, values: &[HuxCore], event: &mut HuxEvent) -> HuxVerdict
     ensures { IsDoneVerdict (Moves (ReturnsWith (map value_of values.now)) set.old.kept)
         (IsNoCoreMove values.now set.old.kept)
-        (record { kept = set.old.kept; event = event.old })
-        (record { kept = set.new.kept; event = event.new }) result }
+        set.old.kept set.new.kept event.old event.new result }
 {
     verdict(give_values(alloc, set, values, event))
 }
@@ -223,8 +213,7 @@ pub fn give(alloc: Global, set: &mut HuxSet, values: &[HuxCore], event: &mut Hux
 pub fn stop(alloc: Global, set: &mut HuxSet, event: &mut HuxEvent) -> HuxVerdict
     ensures { IsDoneVerdict (Moves (λ m. m ≡ moves.Unreachable) set.old.kept)
         (IsNoMove set.old.kept)
-        (record { kept = set.old.kept; event = event.old })
-        (record { kept = set.new.kept; event = event.new }) result }
+        set.old.kept set.new.kept event.old event.new result }
 {
     verdict(make_move(alloc, set, &Move::Unreachable, event))
 }

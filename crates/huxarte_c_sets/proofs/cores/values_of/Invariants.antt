@@ -5,6 +5,6 @@ use Rattle.huxarte_c_sets.proofs.cores.values_of.Given as goal
 -- the values so far, of which each has a kind
 abbrev pub invariant-loop-place : goal.invariant-loop-place
 invariant-loop-place l = record {
-  values : map value_of (take l.place l.cores) ≡ l.values.items;
+  values : l.values.items ≡ map value_of (take l.place l.cores);
   kinds : AreKinds (take l.place l.cores);
 }
