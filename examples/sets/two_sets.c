@@ -1,4 +1,4 @@
-/* Two sets at a time, and what a host may do wrong: two_sets PROVIDER USER
+/* Two sets at a time, and what a host may do wrong: two_sets PROVIDER USER CALLS
  *
  * The files are those of examples/first_pair. The library's memory comes from here, so that each
  * allocation can fail in turn and what is left over is counted. */
@@ -9,7 +9,7 @@
 #include <stdlib.h>
 #include <string.h>
 
-enum { USER = 1, PROVIDER = 0, MANY = 250000 };
+enum { USER = 1, PROVIDER = 0 };
 
 typedef struct Tried {
     bool is_some;
@@ -177,8 +177,8 @@ static long failures(void) {
     return count;
 }
 
-/* Many moves by one handle: as many blocks are alive behind them as before. */
-static void many(void) {
+/* So many calls by one handle: as many blocks are alive behind them as before. */
+static void many(uint32_t calls) {
     HuxSet set = HUX_SET_NONE;
     HuxEvent event;
     long before;
@@ -186,7 +186,7 @@ static void many(void) {
     assert(hux_set_begin(&set, USER, &event).kind == HUX_KIND_FINE);
     call_inc(&set, 0);
     before = alive;
-    for (uint32_t at = 0; at < MANY; at++) {
+    for (uint32_t at = 0; at < calls; at++) {
         call_inc(&set, at);
     }
     assert(alive == before);
@@ -194,7 +194,7 @@ static void many(void) {
 }
 
 int main(int count, char **words) {
-    if (count != 3 || !read_files(&files, words + 1, 2)) {
+    if (count != 4 || !read_files(&files, words + 1, 2)) {
         return 2;
     }
     two(0);
@@ -202,8 +202,8 @@ int main(int count, char **words) {
     trapped();
     printf("two sets, a trap: ok\n");
     printf("each allocation fails in turn: %s\n", failures() > 10 ? "ok" : "too few");
-    many();
-    printf("%d moves, nothing left over: %s\n", 2 * MANY, alive == 0 ? "ok" : "no");
+    many((uint32_t)strtoul(words[3], NULL, 10));
+    printf("%s calls, nothing left over: %s\n", words[3], alive == 0 ? "ok" : "no");
     drop_files(&files);
     return 0;
 }
