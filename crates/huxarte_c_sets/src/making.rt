@@ -1,6 +1,6 @@
 //! A set of the components of files.
 
-ghost use Rattle.std.specs.Prelude.{◌≡◌, IfErr, IfOk, List, OnErr, map, ℕ};
+ghost use Rattle.std.specs.Prelude.{IfErr, IfOk, List, map, ℕ};
 ghost use Rattle.cm_machine_set.specs.Running.{IsNew};
 ghost use Rattle.cm_match.specs.Linked.{set_in};
 ghost use Rattle.cm_match_serving.specs.Sets.{set_of};

@@ -2,7 +2,7 @@
 
 ghost use Rattle.std.specs.Prelude.{◌≡◌};
 ghost use Rattle.huxarte_c_calls.specs.Verdicts.{verdict_by};
-ghost use Rattle.huxarte_c_sets.specs.Refused.{at_place, kind_number, of_set, with_reason};
+ghost use Rattle.huxarte_c_sets.specs.Refused.{at_place, of_set};
 
 use cm_handles::HandleFault;
 use cm_machine_model::Misuse;
