@@ -24,8 +24,8 @@ use Rattle.huxarte_c_sets.specs.declared.refusal.SetRefusal.TheVariants as refus
 pub moved_by : (IsMove : Move → Type 0) (Why Whys : SetRefusal → Type 0) (m : Move) (old new : Option RunningSet) (before after : HuxEvent) (r : Result (Unit {0}) SetRefusal)
     → IsMove m → ((e : SetRefusal) → Why e → Whys e) → IsDone (Moves (λ x. x ≡ m) old) Why old new before after r → IsDone (Moves IsMove old) Whys old new before after r
 moved_by IsMove Why Whys m old new before after (Ok v) is more done =
-    (done.0, (done.1.0.0, subst IsMove (sym done.1.0.1.0) is, done.1.0.1.1), done.1.1)
-moved_by IsMove Why Whys m old new before after (Err e) is more done = (done.0, done.1.0, more e done.1.1)
+    (done.0, (done.1.0, subst IsMove (sym done.1.1) is, done.1.2), done.2)
+moved_by IsMove Why Whys m old new before after (Err e) is more done = (done.0, done.1, more e done.2)
 
 pub list_why : (old : Option RunningSet) (e : SetRefusal) → IsNoMove old e → IsNoListMove old e
 list_why None e why = subst (λ (r : SetRefusal). IsNoListMove None r) (sym why) refl

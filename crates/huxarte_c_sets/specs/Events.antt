@@ -1,5 +1,5 @@
 -- Events in numbers (this project's own choice).
-use Rattle.std.specs.Prelude.{ℕ, List, [], Option, None, Some, length}
+use Rattle.std.specs.Prelude.{ℕ, List, [], Option, None, Some, length, min}
 use Rattle.cm_types.specs.declared.core_value.CoreValue.{CoreValue}
 use Rattle.cm_machine_model.specs.Numbers.{trap_number}
 use Rattle.cm_machine_model.specs.declared.event.Event.{Event}
@@ -14,7 +14,7 @@ event_with kind instance func values = record {
   instance = instance;
   func = func;
   number = 0;
-  count = length values;
+  count = min (length values) 16;
   values = placed values;
 }
 

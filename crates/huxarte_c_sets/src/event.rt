@@ -41,7 +41,7 @@ fn event_with(kind: u32, instance: u32, func: u32, values: &Flat) -> HuxEvent
         instance,
         func,
         number: 0,
-        count: values.len() as u32,
+        count: values.len().min(HUX_MAX_CORE) as u32,
         values: placed(values),
     }
 }
