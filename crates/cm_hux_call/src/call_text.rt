@@ -45,28 +45,13 @@ impl<'a> CallText<'a> {
         let Some(tuple) = tuple_of(alloc, func)? else {
             return Err(self.refuse(alloc, "parameters that are too many")?);
         };
-        match parse(alloc, values.as_bytes(), &tuple) {
-            Ok(Value::Fields(args)) => Ok(args),
-            Ok(_) => Err(self.refuse(alloc, "no arguments")?),
-            Err(fault) if fault.reason == ValueReason::Memory => Err(Fault::Memory),
-            Err(fault) => Err(self.no_values(alloc, func, fault)?),
+        match parsed(alloc, values, &tuple) {
+            Ok(args) => Ok(args),
+            Err(fault) => {
+                let text = fault_text(alloc, func, values, self.at, fault)?;
+                Err(self.refuse(alloc, text.as_str())?)
+            }
         }
-    }
-
-    /// The fault of arguments that are no values of the parameters: where, why, and which parameter
-    /// stands there.
-    fn no_values(
-        &self,
-        alloc: Global,
-        func: &Func,
-        fault: ValueFault,
-    ) -> Result<Fault<'a>, AllocError> {
-        let values = self.text.get(self.at..).unwrap_or("");
-        let number = commas_before(values, fault.at);
-        let parameter = parameter_text(alloc, func, number)?;
-        let (at, reason) = (self.at.saturating_add(fault.at), fault.reason);
-        let text = format!(in alloc; "at {at}: {reason}: {parameter}")?;
-        self.refuse(alloc, text.as_str())
     }
 
     /// No arguments, where the parentheses have none in them.
@@ -93,6 +78,35 @@ fn full_name(alloc: Global, name: &str) -> Result<String, AllocError> {
         Some((interface, function)) => format!(in alloc; "{interface}#{function}"),
         None => String::from_str(alloc, name),
     }
+}
+
+/// The values that a text in parentheses has, of the types of a tuple.
+fn parsed(alloc: Global, values: &str, tuple: &TypeTree) -> Result<Vec<Value>, ValueFault> {
+    match parse(alloc, values.as_bytes(), tuple) {
+        Ok(Value::Fields(args)) => Ok(args),
+        Ok(_) => Err(ValueFault {
+            at: 0,
+            reason: ValueReason::Unexpected,
+        }),
+        Err(fault) => Err(fault),
+    }
+}
+
+/// Why values that begin at a byte of a call are none of a function's parameters: where, why, and
+/// which parameter stands there.
+fn fault_text(
+    alloc: Global,
+    func: &Func,
+    values: &str,
+    begin: usize,
+    fault: ValueFault,
+) -> Result<String, AllocError> {
+    if fault.reason == ValueReason::Memory {
+        return Err(AllocError);
+    }
+    let parameter = parameter_text(alloc, func, commas_before(values, fault.at))?;
+    let (at, reason) = (begin.saturating_add(fault.at), fault.reason);
+    format!(in alloc; "at {at}: {reason}: {parameter}")
 }
 
 /// The parameter of a number, from 0, in words: its number from 1, its name and its type; or how
