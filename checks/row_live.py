@@ -54,4 +54,13 @@ def recorded_line(played):
 def limited_line(played, limit):
     with played.folder() as folder:
         answers, ran = played.serve(folder, played.lines, "--limit", limit)
-    return shown(answers) + {0: " Ended", 1: " Limit", 3: " Trapped", 4: " Err"}[ran.status]
+    return f"{shown(answers)} {end_of(ran)}"
+
+
+# What standard error says of an end, and what rows call it.
+ENDS = {b"limit:": "Limit", b"standard input ends while": "Open", b"standard input: a line": "Long"}
+
+
+def end_of(ran):
+    said = [name for text, name in ENDS.items() if ran.err.startswith(b"error: " + text)]
+    return {0: "Ended", 1: said and said[0], 3: "Trapped", 4: "Err"}[ran.status]

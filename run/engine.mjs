@@ -1,7 +1,7 @@
 // Plays the core modules of a linked set: node runs them, and `hux live`, which this starts, does
 // what passes between them (`crates/cm_live`).
 import { changes } from './changes.mjs';
-import { Refused, signaturesOf } from './hux.mjs';
+import { Refused } from './hux.mjs';
 import { Program } from './pipes.mjs';
 import { Guest } from './plan.mjs';
 import { Reach } from './reach.mjs';
@@ -30,18 +30,14 @@ const number = (word) => (word.startsWith('i64:')
 const word = (value) =>
     (typeof value === 'bigint' ? `i64:${BigInt.asUintN(64, value)}` : `i32:${value >>> 0}`);
 
-// Starts a set of these files, and makes its core modules ready. `live` are words for `hux live`;
-// `provide` answers, for the types of the files, a function for each that Guest calls `provide`;
-// with `all` the machine is told each change of a memory, and else what values take; with `strict`
-// a room that an allocator answers twice is handed on as it is, which traps.
-export async function start(hux, files, { live = [], provide = () => [], ...how } = {}) {
-    const machine = new Program(hux, ['live', ...live, ...files]);
+// Starts a set of these files, or of those of a bundle, and makes its core modules ready. `live` are
+// words for `hux live`; `codes` are the `code` of each Guest that has one; with `all` the machine is
+// told each change of a memory, and else what values take; with `strict` a room that an allocator
+// answers twice is handed on as it is, which traps.
+export async function start(hux, files, { live = [], codes = [], ...how } = {}) {
+    const machine = new Program(hux, ['live', '-q', ...live, ...files]);
     try {
-        const known = await Promise.all(files.map((file) => signaturesOf(hux, file)));
-        const codes = provide(known);
-        const parts = files.map((file, i) =>
-            ({ file, signatures: known[i], provide: codes[i] }));
-        return new Engine(machine, parts, how);
+        return new Engine(machine, codes, how);
     } catch (error) {
         const status = await machine.end();
         if (!(error instanceof Lost) || status === 0) throw error;
@@ -55,13 +51,13 @@ class Lost extends Refused {
 }
 
 export class Engine {
-    constructor(machine, parts, { all = false, strict = false }) {
+    constructor(machine, codes, { all = false, strict = false }) {
         Object.assign(this, { machine, all, strict });
         this.guests = [];
         this.due = []; // what the answers to the lines that went ahead have to begin with
         for (let [kind, ...rest] = this.read(); kind !== 'ready'; [kind, ...rest] = this.read()) {
             const next = this.guests.length;
-            if (kind === 'component') this.guests.push(new Guest(this, next, parts[next]));
+            if (kind === 'component') this.guests.push(new Guest(this, next, ...rest, codes[next]));
             else this.guests.at(-1).add(kind, ...rest);
         }
     }
@@ -188,7 +184,7 @@ export class Engine {
 
 // Where the bytes of a call's arguments stand.
 function argumentsAt(guest, func, values, { params, paramsFar }) {
-    const reach = new Reach(guest.room, guest.signatures.encodings[func]);
+    const reach = new Reach(guest.room, guest.encodings[func]);
     let i = 0;
     if (paramsFar) reach.whole(params, values[0] >>> 0);
     else reach.flat(params, () => values[i++]);
@@ -197,7 +193,7 @@ function argumentsAt(guest, func, values, { params, paramsFar }) {
 
 // Where the bytes of a result stand, which a core function may be lifted with in several types.
 function resultAt(guest, func, answer, lifts) {
-    const reach = new Reach(guest.room, guest.signatures.encodings[func]);
+    const reach = new Reach(guest.room, guest.encodings[func]);
     for (const { signature: { result, resultFar } } of lifts) {
         if (resultFar) reach.whole(result, answer >>> 0);
         else if (result?.far) reach.flat(result, () => answer);

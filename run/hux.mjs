@@ -1,6 +1,5 @@
 // Asks `hux`.
 import { execFile } from 'node:child_process';
-import { Signatures } from './types.mjs';
 
 const MOST = 1e9; // bytes of what a command prints
 
@@ -22,14 +21,4 @@ export function ask(hux, ...words) {
             else refuse(new Refused(error.code, errors.trimEnd()));
         });
     });
-}
-
-async function rows(...words) {
-    return (await ask(...words)).trimEnd().split('\n').map((line) => JSON.parse(line));
-}
-
-// The types of a component's functions.
-export async function signaturesOf(hux, file) {
-    const asked = ['show', 'core'].map((command) => rows(hux, command, '--json', file));
-    return new Signatures(...await Promise.all(asked));
 }

@@ -19,8 +19,8 @@ export class Plugin {
         const plugin = new Plugin();
         try {
             await ask(hux, 'stub', '--caller', file, '-o', caller);
-            const provide = () => [undefined, ({ memory }) => plugin.code(memory)];
-            plugin.engine = await start(hux, [file, caller], { ...how, provide });
+            const codes = [undefined, () => ({ memory }) => plugin.code(memory)];
+            plugin.engine = await start(hux, [file, caller], { ...how, codes });
         } finally {
             rmSync(room, { recursive: true });
         }

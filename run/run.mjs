@@ -39,8 +39,8 @@ async function run(given) {
     try {
         await ask(hux, 'stub', ...given.libraries, given.app, '-o', stub);
         const files = [stub, ...given.libraries, given.app];
-        const provide = ([types]) => [host(types, wasi(given))];
-        const engine = await start(hux, files, { ...given, provide });
+        const codes = [(types) => host(types, wasi(given))];
+        const engine = await start(hux, files, { ...given, codes });
         const status = await call(engine, given.app).finally(() => engine.end());
         return await engine.end() === 4 ? 4 : status; // 4 where it could not write what it records
     } finally {

@@ -1,5 +1,6 @@
-// The types of a component's functions, as `hux show --json` and `hux core --json` say them, with
-// their layouts (CanonicalABI.md, "Alignment", "Element Size", "Flattening").
+// The types of a component's functions, as the rows `type` and `func` of a plan say them (those of
+// `hux show --json`), with their layouts (CanonicalABI.md, "Alignment", "Element Size",
+// "Flattening").
 //
 // A layout has its kind, size, alignment, core values (`flat`), and whether it has bytes elsewhere
 // (`far`).
@@ -78,16 +79,14 @@ const MAKERS = {
     borrow: handle,
 };
 
-// Of a component: the functions that it imports and exports, by `interface#function`; the resources
-// of its exports; and the encoding of strings of each core function.
+// Of a component: the functions that it imports and exports, by `interface#function`; and the
+// resources of its exports.
 export class Signatures {
-    constructor(shown, core) {
+    constructor() {
         this.types = new Map();
         this.imports = new Map();
         this.exports = new Map();
         this.resources = [];
-        this.encodings = core.map((row) => row.encoding);
-        shown.forEach((row) => this.add(row));
     }
 
     type(of) {

@@ -7,6 +7,7 @@
 mod answer;
 mod fault;
 mod goings_on;
+mod listener;
 mod playing;
 mod record;
 mod results;
@@ -17,6 +18,7 @@ mod written;
 pub use answer::{Answer, Written};
 pub use cm_abi_model::Region;
 pub use fault::LiveFault;
+pub use listener::Listener;
 pub use record::Record;
 pub use served::{Served, serve};
 pub use session::Session;

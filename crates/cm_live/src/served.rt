@@ -11,6 +11,7 @@ ghost use Rattle.cm_live.specs.Transcripts.{done, streams};
 
 use crate::answer::Answer;
 use crate::fault::{LiveFault, write_refusal};
+use crate::listener::Listener;
 use crate::record::{Record, admit, keep};
 use crate::session::Session;
 use crate::written::write_answer;
@@ -73,17 +74,18 @@ impl Tally {
 /// Writes `ready`; then reads a line, does what it says, and writes and flushes its answer, line by
 /// line, until the input ends or so many moves were made. A line that is refused is answered
 /// `error: ` with the reason, and nothing has changed; so is a line that the input ends in, with no
-/// LF behind it. Statements that were done are recorded, where a record is given, as a script that
-/// leads to the same events.
+/// LF behind it. Of a statement that was done the listener hears; it is recorded then, where a
+/// record is given, as a script that leads to the same events; and then it is answered.
 ///
 /// An error is one of the reader, the writer or the record, or that there is no memory for a line.
 /// What the lines did that were read until then is done.
-pub fn serve<R: BufRead, W: Write, K: Write>(
+pub fn serve<R: BufRead, W: Write, K: Write, L: Listener>(
     alloc: Global,
     session: &mut Session<'_, '_>,
     reader: &mut R,
     writer: &mut W,
     record: &mut Option<Record<K>>,
+    listener: &mut L,
     limit: u64,
 ) -> io::Result<Served>
     ensures linked { linked_of session.new ≡ linked_of session.old }
@@ -94,7 +96,7 @@ pub fn serve<R: BufRead, W: Write, K: Write>(
 {
     writer.write_all(b"ready\n")?;
     writer.flush()?;
-    let served = serve_lines(alloc, session, reader, writer, record, limit)?;
+    let served = serve_lines(alloc, session, reader, writer, record, listener, limit)?;
     match record {
         Some(record) => record.finish()?,
         None => {}
@@ -103,12 +105,13 @@ pub fn serve<R: BufRead, W: Write, K: Write>(
 }
 
 /// Serves line by line, until the input ends or so many moves were made.
-fn serve_lines<R: BufRead, W: Write, K: Write>(
+fn serve_lines<R: BufRead, W: Write, K: Write, L: Listener>(
     alloc: Global,
     session: &mut Session<'_, '_>,
     reader: &mut R,
     writer: &mut W,
     record: &mut Option<Record<K>>,
+    listener: &mut L,
     limit: u64,
 ) -> io::Result<Served>
     ensures linked { linked_of session.new ≡ linked_of session.old }
@@ -128,7 +131,7 @@ fn serve_lines<R: BufRead, W: Write, K: Write>(
         if !read_line(reader, &mut line)? {
             return Ok(tally.ended(limit));
         }
-        serve_line(alloc, session, &line, writer, record, &mut tally)?;
+        serve_line(alloc, session, &line, writer, record, listener, &mut tally)?;
         writer.flush()?;
     }
     Ok(tally.ended(limit))
@@ -146,12 +149,13 @@ fn read_line<R: BufRead>(reader: &mut R, line: &mut Vec<u8>) -> io::Result<bool>
 }
 
 /// Does what a line says, and writes the answer.
-fn serve_line<W: Write, K: Write>(
+fn serve_line<W: Write, K: Write, L: Listener>(
     alloc: Global,
     session: &mut Session<'_, '_>,
     line: &[u8],
     writer: &mut W,
     record: &mut Option<Record<K>>,
+    listener: &mut L,
     tally: &mut Tally,
 ) -> io::Result<()>
     requires { tally.old.moves < 2 ^ 64 - 1 }
@@ -166,6 +170,7 @@ fn serve_line<W: Write, K: Write>(
     match do_line(alloc, session, line, record) {
         Ok((statement, answer)) => {
             tally.add(&statement, &answer);
+            listener.hear(actor, &statement, &answer);
             keep(record, statement, line, actor)?;
             write_answer(writer, session, &answer)
         }

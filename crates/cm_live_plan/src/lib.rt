@@ -9,5 +9,5 @@ mod sections;
 
 pub use hex_text::HexText;
 pub use memories::{memory_of, pages_of};
-pub use plan::write_component;
-pub use sections::{Place, module_places};
+pub use plan::{Beside, PlacedFile, write_component};
+pub use sections::{Place, component_places, module_places};

@@ -10,6 +10,9 @@ const PREAMBLE_SIZE: usize = 8;
 /// The section of a component file that is a core module.
 const CORE_MODULE: u8 = 1;
 
+/// The section of a component file that is a component.
+const COMPONENT: u8 = 4;
+
 /// Bytes of a file: where they begin, from 0, and how many they are.
 #[derive(Clone, Copy, Debug, PartialEq, Eq)]
 pub struct Place {
@@ -63,13 +66,23 @@ pub(crate) fn sections_of(alloc: Global, file: &[u8]) -> Result<Vec<Framed>, All
     Ok(sections)
 }
 
-/// Where the core modules of a component file lie, in order.
-pub fn module_places(alloc: Global, file: &[u8]) -> Result<Vec<Place>, AllocError> {
+/// Where the sections of this number lie in a file, in order.
+fn places_of(alloc: Global, file: &[u8], number: u8) -> Result<Vec<Place>, AllocError> {
     let mut places = Vec::new(alloc);
     for section in sections_of(alloc, file)? {
-        if section.number == CORE_MODULE {
+        if section.number == number {
             places.push(section.contents)?;
         }
     }
     Ok(places)
+}
+
+/// Where the core modules of a component file lie, in order.
+pub fn module_places(alloc: Global, file: &[u8]) -> Result<Vec<Place>, AllocError> {
+    places_of(alloc, file, CORE_MODULE)
+}
+
+/// Where the components that stand in a component file lie, in order: of a bundle its parts.
+pub fn component_places(alloc: Global, file: &[u8]) -> Result<Vec<Place>, AllocError> {
+    places_of(alloc, file, COMPONENT)
 }
