@@ -1,9 +1,10 @@
-/* Huxarte for C and C++: component files checked, shown, linked and played, and values of the
- * Canonical ABI passed, in process.
+/* Huxarte for C and C++: component files checked, shown, linked and played, sets of them run move by
+ * move, and values of the Canonical ABI passed, in process.
  *
- * Each function is proved to meet its contract for the bytes that it is given, and keeps nothing
- * between calls: it may be called from any thread, also at once, with memory of its own each. What
- * is not proved stands with the caller:
+ * Each function is proved to meet its contract for the bytes that it is given. It keeps nothing
+ * between calls but the sets that HuxSet structs have: it may be called from any thread, also at
+ * once, with memory of its own each, and a set is for the thread that made it. What is not proved
+ * stands with the caller:
  *
  * - A pointer and a length, in elements, are those of memory that is there, and aligned, for the
  *   whole call. A pointer is not NULL, also where the length is 0.
@@ -11,7 +12,10 @@
  *   and no other thread touches it meanwhile. What it reads may overlap, and stays as it is.
  * - Memory comes from three functions of the program (examples/c/heap.c): from malloc, realloc and
  *   free, of one allocator, which align a block to each power of two up to 16 that divides its size.
- *   Where there is none, the call says so by its answer; nothing is kept allocated behind a call.
+ *   Where there is none, the call says so by its answer; nothing but sets is kept allocated behind a
+ *   call.
+ * - A HuxSet is all zeros at first (HUX_SET_NONE), and then as a call left it. It is not used as a
+ *   copy: of two with the same `at` the one is dead once the other is freed.
  * - No call is made from a signal handler, or from a forked child of a process with threads.
  *
  * A text is written as far as its buffer has room, without a zero behind it; the rest of the buffer
@@ -122,6 +126,27 @@ enum HuxSort {
     HUX_SORT_BORROW = 11
 };
 
+/* What is wrong with a call of a set, by its kind, beside those of `HuxKind`. */
+enum HuxSetKind {
+    /* The handle keeps no set. */
+    HUX_SET_KIND_EMPTY = 27,
+    /* The handle keeps a set already. */
+    HUX_SET_KIND_FULL = 28,
+    /* The machine refuses, by the number of the misuse: 1 no instance acts, 2 a call is on the
+     * stack, 3 the instance is closed, 4 there is no such instance, 5 wrong numbers of pages, 6
+     * no memory. */
+    HUX_SET_KIND_MISUSE = 29,
+    /* The core value `place` has no kind of its number. */
+    HUX_SET_KIND_NO_KIND = 30,
+    /* The set has no instance of the number. */
+    HUX_SET_KIND_NO_INSTANCE = 31,
+    /* No handle of the resource stands at the index: the number of a `HandleFault`. */
+    HUX_SET_KIND_NO_HANDLE = 32
+};
+
+/* No event has more core values (CanonicalABI.md, `MAX_FLAT_PARAMS`). */
+#define HUX_MAX_CORE 16
+
 /* What the allocator of a callee is asked for (CanonicalABI.md, `realloc`). */
 typedef struct HuxRequest {
     /* 1 where its old pointer is the answer to the request just before it; else 0, and it has
@@ -226,6 +251,75 @@ typedef struct HuxFile {
     HuxSpan name;
     HuxSpan bytes;
 } HuxFile;
+
+/* A core value (CanonicalABI.md, "Flattening"). */
+typedef struct HuxCore {
+    /* The number, without a sign of its own: one of 32 bits in the low half, above which is 0 in
+     * what the library writes, and nothing counts in what it reads. */
+    uint64_t bits;
+    /* 0 for a number of 32 bits, 1 for one of 64. */
+    uint32_t kind;
+} HuxCore;
+
+/* What a move led to. */
+typedef struct HuxEvent {
+    /* 0 the bytes are written; 1 the memory has grown; 2 the body of a function begins; 3 the
+     * allocator of a call is called; 4 an instance goes on where it called; 5 a function tidies
+     * up behind a call; 6 the destructor of a dropped resource begins; 7 a trap has emptied the
+     * stack and closed the instances on it; 8 the root has returned. */
+    uint32_t kind;
+    /* Which instance makes the next move, from 0, of the kinds 2 to 6; else 0. */
+    uint32_t instance;
+    /* Which core function of its component it is in, from 0, of the kinds 2, 3, 5 and 6; else 0. */
+    uint32_t func;
+    /* Of kind 1 the pages before, `UINT32_MAX` where none were added; of kind 6 the
+     * representation; of kind 7 the number of the trap (docs/RULES.md); else 0. */
+    uint32_t number;
+    /* How many core values the instance is handed: arguments or results, of the kinds 2 to 5. */
+    uint32_t count;
+    /* These core values; behind them 0. */
+    HuxCore values[HUX_MAX_CORE];
+} HuxEvent;
+
+/* A set of linked components that runs, or none. All zeros, as `HUX_SET_NONE`, it keeps none.
+ *
+ * What `at` leads to is the library's: nobody else reads or writes it. The struct may be moved,
+ * and not be used as a copy: of two with the same `at` one is dead. A set takes one call at a
+ * time, by the thread that made it. Each set is freed by `hux_set_free`, which leaves
+ * `HUX_SET_NONE`. */
+typedef struct HuxSet {
+    void *at;
+} HuxSet;
+#define HUX_SET_NONE { NULL }
+
+/* A set as a whole. */
+typedef struct HuxSetState {
+    /* How many instances there are. */
+    size_t instances;
+    /* Which instance makes the next move; `SIZE_MAX` where no call is on the stack. */
+    size_t acting;
+    /* How much is kept of the topmost call: records of parts of the value that is on its way,
+     * resources on their way, and handles that are lent to the call. */
+    size_t records;
+    size_t handles;
+    size_t lends;
+} HuxSetState;
+
+/* An instance of a set. */
+typedef struct HuxInstance {
+    /* How many bytes its memory has. */
+    size_t bytes;
+    /* 1 where a trap has closed it, else 0. */
+    uint32_t closed;
+} HuxInstance;
+
+/* A resource of a set. */
+typedef struct HuxResource {
+    /* Which of its component's resources, from 0. */
+    uint64_t number;
+    /* Which component defines it, from 0. */
+    uint32_t component;
+} HuxResource;
 
 /* How many bytes there are to be written of each text. */
 typedef struct HuxWanted {
@@ -405,6 +499,99 @@ HuxVerdict hux_run(
     uint8_t *err,
     size_t err_length,
     HuxWanted *wanted);
+
+/* Links the components of files, each a part of the bytes, as `hux_link` does, and has the
+ * handle keep a set of them that runs. Each instance has so many pages of zeros, of 65,536
+ * bytes: `pages` has one number for each file.
+ *
+ * The answer is HUX_KIND_FINE; else the handle keeps what it kept. HUX_SET_KIND_FULL comes
+ * first, then what `hux_link` says, then HUX_SET_KIND_MISUSE: 5 where there is not one number
+ * for each file or one is above 1,024, 6 where there is no memory for the set. */
+HuxVerdict hux_set_new(
+    const uint8_t *bytes,
+    size_t bytes_length,
+    const HuxSpan *files,
+    size_t files_length,
+    const uint32_t *pages,
+    size_t pages_length,
+    HuxSet *set);
+
+/* Frees the set, where there is one: the handle keeps none from here on. */
+void hux_set_free(HuxSet *set);
+
+/* Begins a root call of an instance, from 0, which makes the next move.
+ *
+ * The answer is HUX_KIND_FINE, and `event` has the event; else handle and event stay as they
+ * were: HUX_SET_KIND_EMPTY where no set is kept, HUX_SET_KIND_MISUSE where a call is on the
+ * stack (2), else where the instance is closed (3), else where there is none (4). The same holds
+ * of each move below, whose HUX_SET_KIND_MISUSE is that no call is on the stack (1). */
+HuxVerdict hux_set_begin(HuxSet *set, uint32_t instance, HuxEvent *event);
+
+/* Writes bytes into the memory of the instance that acts, the first one at the address `at`.
+ * HUX_KIND_MEMORY comes where there is none for a copy of them. */
+HuxVerdict hux_set_write(
+    HuxSet *set,
+    uint32_t at,
+    const uint8_t *bytes,
+    size_t bytes_length,
+    HuxEvent *event);
+
+/* Asks for so many more pages at the end of the memory of the instance that acts. */
+HuxVerdict hux_set_grow(HuxSet *set, uint32_t pages, HuxEvent *event);
+
+/* Calls the core function of the acting instance's component that has this index, from 0.
+ *
+ * HUX_SET_KIND_NO_KIND comes where a core value has no kind, else HUX_KIND_MEMORY where there is
+ * none for a copy of them; these come before HUX_SET_KIND_EMPTY. No core values take no memory. */
+HuxVerdict hux_set_call(
+    HuxSet *set,
+    uint32_t func,
+    const HuxCore *args,
+    size_t args_length,
+    HuxEvent *event);
+
+/* Returns from the function that the instance is in that acts. HUX_SET_KIND_NO_KIND and
+ * HUX_KIND_MEMORY come as in `hux_set_call`. */
+HuxVerdict hux_set_return(
+    HuxSet *set,
+    const HuxCore *values,
+    size_t values_length,
+    HuxEvent *event);
+
+/* Stops the instance that acts: that is a trap. */
+HuxVerdict hux_set_unreachable(HuxSet *set, HuxEvent *event);
+
+/* Tells how many instances there are, whose move is next, and how much is kept of the topmost
+ * call.
+ *
+ * The answer is HUX_KIND_FINE, and `seen` has it; else HUX_SET_KIND_EMPTY, and `seen` stays. The
+ * set stays in any case, also in the calls below. */
+HuxVerdict hux_set_state(HuxSet *set, HuxSetState *seen);
+
+/* Tells how many bytes the memory of an instance has, and whether a trap has closed it.
+ *
+ * The answer is HUX_KIND_FINE; else HUX_SET_KIND_EMPTY or HUX_SET_KIND_NO_INSTANCE, and `seen`
+ * stays. */
+HuxVerdict hux_set_instance(HuxSet *set, uint32_t number, HuxInstance *seen);
+
+/* Copies bytes of the memory of an instance, from `at` on: as many as there is room for.
+ *
+ * The answer is HUX_KIND_FINE; else HUX_SET_KIND_EMPTY, HUX_SET_KIND_NO_INSTANCE, or
+ * HUX_KIND_OUTSIDE where the memory has no such bytes, and `into` stays. */
+HuxVerdict hux_set_read(HuxSet *set, uint32_t number, size_t at, uint8_t *into, size_t into_length);
+
+/* Tells the handle at an index of an instance's table, which is to be of a resource
+ * (CanonicalABI.md, "Table State").
+ *
+ * The answer is HUX_KIND_FINE; else HUX_SET_KIND_EMPTY, HUX_SET_KIND_NO_INSTANCE, or
+ * HUX_SET_KIND_NO_HANDLE, by the number of the `HandleFault`: 1 where no handle stands there, 2
+ * where it is of another resource; and `seen` stays. */
+HuxVerdict hux_set_handle(
+    HuxSet *set,
+    uint32_t number,
+    uint32_t index,
+    const HuxResource *resource,
+    HuxHandle *seen);
 
 /* Runs a command of `component_tool` in process, over files that are handed over: its words,
  * those behind the program's name, are parts of the bytes, and so are the names of the files and

@@ -5,5 +5,6 @@ mod calls;
 mod components;
 mod hux;
 mod playing;
+mod sets;
 mod streams;
 mod tool;

@@ -1,0 +1,232 @@
+//! Sets that run, by handle.
+
+ghost use Rattle.std.specs.Prelude.{◌≡◌, None, length, map};
+ghost use Rattle.cm_machine_model.specs.Moves.{CallsWith, ReturnsWith, WritesAt};
+ghost use Rattle.cm_machine_model.specs.declared.moves.Move.TheVariants as moves;
+ghost use Rattle.huxarte_c_sets.specs.Cores.{value_of};
+ghost use Rattle.huxarte_c_calls.specs.Verdicts.{verdict_by};
+ghost use Rattle.huxarte_c_sets.specs.Kept.{Begins, IsDoneVerdict, IsNoBegin, IsNoCoreMove};
+ghost use Rattle.huxarte_c_sets.specs.Kept.{IsNoListMove, IsNoMove, Moves};
+ghost use Rattle.huxarte_c_sets.specs.Looking.{handle_seen, instance_seen, part_seen};
+ghost use Rattle.huxarte_c_sets.specs.Looking.{state_seen, told_or};
+ghost use Rattle.huxarte_c_sets.specs.Making.{IsNewVerdict};
+ghost use Rattle.huxarte_c_sets.specs.Refused.{of_set};
+
+use huxarte_c_calls::{HuxHandle, HuxSpan, HuxVerdict};
+use huxarte_c_sets::{
+    HuxCore, HuxEvent, HuxInstance, HuxResource, HuxSet, HuxSetState, begin, call, give, grow,
+    handle, instance, make, read, state, stop, write,
+};
+use std::alloc::Global;
+
+/// Links the components of files, each a part of the bytes, as `hux_link` does, and has the handle
+/// keep a set of them that runs. Each instance has so many pages of zeros, of 65,536 bytes: `pages`
+/// has one number for each file.
+///
+/// The answer is `Fine`; else the handle keeps what it kept. `Full` comes first, then what
+/// `hux_link` says, then `Misuse`: 5 where there is not one number for each file or one is above
+/// 1,024, 6 where there is no memory for the set.
+#[unsafe(no_mangle)]
+pub extern "C" fn hux_set_new(
+    alloc: Global,
+    bytes: &[u8],
+    files: &[HuxSpan],
+    pages: &[u32],
+    set: &mut HuxSet,
+) -> HuxVerdict
+    ensures { IsNewVerdict bytes.now files.now pages.now set.old.kept set.new.kept result }
+{
+    make(alloc, bytes, files, pages, set)
+}
+
+/// Frees the set, where there is one: the handle keeps none from here on.
+#[unsafe(no_mangle)]
+pub extern "C" fn hux_set_free(alloc: Global, set: &mut HuxSet)
+    ensures { set.new.kept ≡ None }
+{
+    set.free(alloc)
+}
+
+/// Begins a root call of an instance, from 0, which makes the next move.
+///
+/// The answer is `Fine`, and `event` has the event; else handle and event stay as they were:
+/// `Empty` where no set is kept, `Misuse` where a call is on the stack (2), else where the instance
+/// is closed (3), else where there is none (4). The same holds of each move below, whose `Misuse`
+/// is that no call is on the stack (1).
+#[unsafe(no_mangle)]
+pub extern "C" fn hux_set_begin(
+    alloc: Global,
+    set: &mut HuxSet,
+    instance: u32,
+    event: &mut HuxEvent,
+) -> HuxVerdict
+    ensures { IsDoneVerdict (Begins set.old.kept instance) (IsNoBegin set.old.kept instance)
+        set.old.kept set.new.kept event.old event.new result }
+{
+    begin(alloc, set, instance, event)
+}
+
+/// Writes bytes into the memory of the instance that acts, the first one at the address `at`.
+/// `Memory` comes where there is none for a copy of them.
+#[unsafe(no_mangle)]
+pub extern "C" fn hux_set_write(
+    alloc: Global,
+    set: &mut HuxSet,
+    at: u32,
+    bytes: &[u8],
+    event: &mut HuxEvent,
+) -> HuxVerdict
+    ensures { IsDoneVerdict (Moves (WritesAt at bytes.now) set.old.kept)
+        (IsNoListMove set.old.kept)
+        set.old.kept set.new.kept event.old event.new result }
+{
+    write(alloc, set, at, bytes, event)
+}
+
+/// Asks for so many more pages at the end of the memory of the instance that acts.
+#[unsafe(no_mangle)]
+pub extern "C" fn hux_set_grow(
+    alloc: Global,
+    set: &mut HuxSet,
+    pages: u32,
+    event: &mut HuxEvent,
+) -> HuxVerdict
+    ensures { IsDoneVerdict (Moves (λ m. m ≡ moves.Grow pages) set.old.kept)
+        (IsNoMove set.old.kept)
+        set.old.kept set.new.kept event.old event.new result }
+{
+    grow(alloc, set, pages, event)
+}
+
+/// Calls the core function of the acting instance's component that has this index, from 0.
+///
+/// `NoKind` comes where a core value has no kind, else `Memory` where there is none for a copy of
+/// them; these come before `Empty`. No core values take no memory.
+#[unsafe(no_mangle)]
+pub extern "C" fn hux_set_call(
+    alloc: Global,
+    set: &mut HuxSet,
+    func: u32,
+    args: &[HuxCore],
+    event: &mut HuxEvent,
+) -> HuxVerdict
+    ensures { IsDoneVerdict (Moves (CallsWith func (map value_of args.now)) set.old.kept)
+        (IsNoCoreMove args.now set.old.kept)
+        set.old.kept set.new.kept event.old event.new result }
+{
+    call(alloc, set, func, args, event)
+}
+
+/// Returns from the function that the instance is in that acts. `NoKind` and `Memory` come as in
+/// `hux_set_call`.
+#[unsafe(no_mangle)]
+pub extern "C" fn hux_set_return(
+    alloc: Global,
+    set: &mut HuxSet,
+    values: &[HuxCore],
+    event: &mut HuxEvent,
+) -> HuxVerdict
+    ensures { IsDoneVerdict (Moves (ReturnsWith (map value_of values.now)) set.old.kept)
+        (IsNoCoreMove values.now set.old.kept)
+        set.old.kept set.new.kept event.old event.new result }
+{
+    give(alloc, set, values, event)
+}
+
+/// Stops the instance that acts: that is a trap.
+#[unsafe(no_mangle)]
+pub extern "C" fn hux_set_unreachable(
+    alloc: Global,
+    set: &mut HuxSet,
+    event: &mut HuxEvent,
+) -> HuxVerdict
+    ensures { IsDoneVerdict (Moves (λ m. m ≡ moves.Unreachable) set.old.kept)
+        (IsNoMove set.old.kept)
+        set.old.kept set.new.kept event.old event.new result }
+{
+    stop(alloc, set, event)
+}
+
+/// Tells how many instances there are, whose move is next, and how much is kept of the topmost
+/// call.
+///
+/// The answer is `Fine`, and `seen` has it; else `Empty`, and `seen` stays. The set stays in any
+/// case, also in the calls below.
+#[unsafe(no_mangle)]
+pub extern "C" fn hux_set_state(
+    alloc: Global,
+    set: &mut HuxSet,
+    seen: &mut HuxSetState,
+) -> HuxVerdict
+    ensures verdict { result ≡ verdict_by of_set
+        (state_seen set.old.kept) }
+    ensures seen { seen.new
+        ≡ told_or seen.old (state_seen set.old.kept) }
+    ensures kept { set.new.kept ≡ set.old.kept }
+{
+    state(alloc, set, seen)
+}
+
+/// Tells how many bytes the memory of an instance has, and whether a trap has closed it.
+///
+/// The answer is `Fine`; else `Empty` or `NoInstance`, and `seen` stays.
+#[unsafe(no_mangle)]
+pub extern "C" fn hux_set_instance(
+    alloc: Global,
+    set: &mut HuxSet,
+    number: u32,
+    seen: &mut HuxInstance,
+) -> HuxVerdict
+    ensures verdict { result ≡ verdict_by of_set
+        (instance_seen set.old.kept number) }
+    ensures seen { seen.new
+        ≡ told_or seen.old (instance_seen set.old.kept number) }
+    ensures kept { set.new.kept ≡ set.old.kept }
+{
+    instance(alloc, set, number, seen)
+}
+
+/// Copies bytes of the memory of an instance, from `at` on: as many as there is room for.
+///
+/// The answer is `Fine`; else `Empty`, `NoInstance`, or `Outside` where the memory has no such
+/// bytes, and `into` stays.
+#[unsafe(no_mangle)]
+pub extern "C" fn hux_set_read(
+    alloc: Global,
+    set: &mut HuxSet,
+    number: u32,
+    at: usize,
+    into: &mut [u8],
+) -> HuxVerdict
+    ensures verdict { result ≡ verdict_by of_set
+        (part_seen set.old.kept number at (length into.old)) }
+    ensures seen { into.new
+        ≡ told_or into.old (part_seen set.old.kept number at (length into.old)) }
+    ensures kept { set.new.kept ≡ set.old.kept }
+{
+    read(alloc, set, number, at, into)
+}
+
+/// Tells the handle at an index of an instance's table, which is to be of a resource
+/// (CanonicalABI.md, "Table State").
+///
+/// The answer is `Fine`; else `Empty`, `NoInstance`, or `NoHandle`, by the number of the
+/// `HandleFault`: 1 where no handle stands there, 2 where it is of another resource; and `seen`
+/// stays.
+#[unsafe(no_mangle)]
+pub extern "C" fn hux_set_handle(
+    alloc: Global,
+    set: &mut HuxSet,
+    number: u32,
+    index: u32,
+    resource: &HuxResource,
+    seen: &mut HuxHandle,
+) -> HuxVerdict
+    ensures verdict { result ≡ verdict_by of_set
+        (handle_seen set.old.kept number index resource.now) }
+    ensures seen { seen.new
+        ≡ told_or seen.old (handle_seen set.old.kept number index resource.now) }
+    ensures kept { set.new.kept ≡ set.old.kept }
+{
+    handle(alloc, set, number, index, resource, seen)
+}

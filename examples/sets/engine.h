@@ -1,0 +1,39 @@
+/* An engine for core modules: JavaScriptCore, by engine.js. */
+#ifndef ENGINE_H
+#define ENGINE_H
+
+#include "huxarte.h"
+
+/* The bytes of a guest's memory, as take_memory found them and as give_memory hands them over. */
+extern uint8_t staging[1024 * 65536];
+
+/* Begins: the file of engine.js, and what is called where a guest calls out. It answers its core
+ * value, and 0 where all that is on the stack is over. */
+typedef int (*Calls)(uint32_t instance, uint32_t func, const HuxCore *values, size_t count,
+                     HuxCore *answer);
+void begin_engine(const char *file, Calls calls);
+void end_engine(void);
+
+/* A line of the plan of a component, whose file has these bytes. */
+void plan_line(uint32_t instance, const uint8_t *bytes, size_t length, const char *line);
+
+/* What the plan says: pages at first, the first function that is exported, what makes handles of a
+ * resource of a name, the name of a function, and whether it answers: 0, 1 for i32, 2 for i64. */
+uint32_t pages_of(uint32_t instance);
+uint32_t first_of(uint32_t instance);
+uint32_t maker_of(uint32_t instance, const char *name);
+void name_of(uint32_t instance, uint32_t func, char *name, size_t room);
+int answer_of(uint32_t instance, uint32_t func);
+
+/* Runs a core function; 0 where it trapped. */
+int run_func(uint32_t instance, uint32_t func, const HuxCore *values, size_t count,
+             HuxCore *answer);
+
+/* How many bytes the memory has, which are then in staging; and back. */
+size_t take_memory(uint32_t instance);
+void give_memory(uint32_t instance, size_t length);
+
+/* Grows the memory of a guest by pages. */
+void grow_memory(uint32_t instance, uint32_t pages);
+
+#endif
