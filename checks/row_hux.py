@@ -35,7 +35,7 @@ def answer_core(family, words):
         with Folder({"f": file}) as folder:
             lines = folder.run("hux", "core", "f").out.decode().splitlines()
         rows = [it.split("\t") for it in lines]
-        return next((it[0] for it in rows if it[-1].endswith(f"lifted as {name}")), "none")
+        return next((it[0] for it in rows if f"lifted as {name}" in it[-1].split(", ")), "none")
 
     return line
 

@@ -4,6 +4,8 @@ import re
 from itertools import groupby
 
 SIGNS = {"n": "\n", "r": "\r", "t": "\t"}
+# What else words of a command spell: a blank, and a byte that no UTF-8 has.
+IN_WORDS = SIGNS | {"s": " ", "b": "\udcff"}
 SHOWN = {it: chr(it) if 0x20 <= it < 0x7F else "?" for it in range(256)}
 SHOWN |= {ord(sign): f"\\{letter}" for letter, sign in SIGNS.items()}
 
@@ -16,11 +18,12 @@ def bytes_of(word):
 
 
 def text_of(words):
-    """The text that words spell: `\\n`, `\\r` and `\\t`, and `\\N(PART)` for N times the part."""
+    """The text that words spell: `\\n`, `\\r`, `\\t` and the signs of words, and `\\N(PART)` for N
+    times the part."""
     def sign(found):
-        return SIGNS[found[1]] if found[1] else int(found[2]) * found[3]
+        return IN_WORDS[found[1]] if found[1] else int(found[2]) * found[3]
 
-    return re.sub(r"\\(?:([nrt])|(\d+)\(([^)]*)\))", sign, " ".join(words))
+    return re.sub(r"\\(?:([nrtsb])|(\d+)\(([^)]*)\))", sign, " ".join(words))
 
 
 def shown(printed):

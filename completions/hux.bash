@@ -15,7 +15,7 @@ _hux() {
         plug) words="--plug --out --json --quiet --help" ;;
         play) words="--script --values --mermaid --messages --json --quiet --help" ;;
         call) words="--script --json --quiet --help" ;;
-        live) words="--record --limit --pages --values --json --quiet --help" ;;
+        live) words="--record --limit --pages --values --quiet --help" ;;
         stub) words="--out --caller --json --quiet --help" ;;
         explain) words="--json --quiet --help" ;;
         diff) words="--world --json --quiet --help" ;;

@@ -3,8 +3,8 @@
 use crate::objects::{tell_arguments, tell_open, tell_plan, tell_written};
 use cm_hux_play::files::{
     Bundle, Checked, Ending, Fault, Files, Linked, LoadedFiles, Streams, load_files, made,
-    open_imports, read_bundle, read_bytes, tell_bytes, write_arguments, write_file, write_plan,
-    write_whole,
+    open_imports, read_bundle, read_bytes, refuse_to_overwrite, tell_bytes, unwritten,
+    write_arguments, write_file, write_plan, write_whole,
 };
 use cm_hux_play::{component_names, write_graph};
 use cm_hux_words::{Habits, LinkWords, PlugWords};
@@ -23,6 +23,7 @@ pub(crate) fn run_link<'a, F: Files, S: Streams, O: Write>(
     out: &mut O,
 ) -> Result<Ending, Fault<'a>> {
     let export = export_of(alloc, words.export)?;
+    keep_inputs(alloc, words.out, &words.files)?;
     let (loaded, unread) = load_files(alloc, files, &words.files);
     let linked = loaded.link(alloc, unread)?;
     let set = LinkedFiles {
@@ -50,6 +51,7 @@ pub(crate) fn run_plug<'a, F: Files, S: Streams, O: Write>(
     streams: &mut S,
     out: &mut O,
 ) -> Result<Ending, Fault<'a>> {
+    keep_inputs(alloc, words.out, &words.files)?;
     let (loaded, unread) = load_files(alloc, files, &words.files);
     let linked = link_with_open(alloc, &loaded, unread, habits, out)?;
     let set = LinkedFiles {
@@ -61,6 +63,14 @@ pub(crate) fn run_plug<'a, F: Files, S: Streams, O: Write>(
     set.write(words.out, None, streams, out)?;
     set.tell_links(out)?;
     Ok(Ending::Done)
+}
+
+/// Refuses to write the set over one of its files.
+fn keep_inputs(alloc: Global, out: Option<&str>, files: &[&str]) -> Result<(), Fault<'static>> {
+    match out {
+        Some(out) => refuse_to_overwrite(alloc, out, files),
+        None => Ok(()),
+    }
 }
 
 /// The linked set of the components of files, of which it prints the open imports before.
@@ -203,13 +213,13 @@ fn write_parts<'a, S: Streams, O: Write>(
     streams: &mut S,
     out: &mut O,
 ) -> Result<(), Fault<'a>> {
-    if streams.create_folder(folder).is_err() {
-        return Err(Fault::Unwritten { name: folder });
+    if let Err(error) = streams.create_folder(folder) {
+        return Err(unwritten(folder, &error));
     }
     for (number, part) in bundle.parts.iter().enumerate() {
         let path = format!(in alloc; "{folder}/{number}.wasm")?;
-        if write_whole(alloc, streams, path.as_str(), part.file).is_err() {
-            return Err(Fault::Unwritten { name: folder });
+        if let Err(error) = write_whole(alloc, streams, path.as_str(), part.file) {
+            return Err(unwritten(folder, &error));
         }
         tell_of_file(alloc, path.as_str(), part.file.len(), habits, out)?;
     }

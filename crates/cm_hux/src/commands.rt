@@ -134,7 +134,7 @@ fn run_command<'a, F: Files, S: Streams, O: Write, E: Write>(
         Request::Plug(plug) => run_plug(alloc, plug, habits, files, streams, out),
         Request::Play(play) => run_play(alloc, play, habits, files, out, err),
         Request::Call(call) => run_call(alloc, call, habits.json, files, out, err),
-        Request::Live(live) => run_live(alloc, live, files, streams, out, err),
+        Request::Live(live) => run_live(alloc, live, habits, files, streams, out, err),
         Request::Explain { words } => run_explain(alloc, words, habits, out),
         Request::Diff(diff) => run_diff(alloc, diff, habits, files, out),
         Request::Stub(stub) => run_stub(alloc, stub, habits, files, streams, out),
@@ -261,12 +261,13 @@ fn run_core<'a, F: Files, O: Write>(
 
 /// A line, or an object, for each core function of a file.
 fn core_lines<'a>(alloc: Global, loaded: &Loaded<'a>, habits: Habits) -> Result<String, Fault<'a>> {
+    let signature = signature_of(alloc, loaded)?;
     let checked = loaded.check(alloc)?;
     let functions = Functions::of(alloc, &checked)?;
     let text = if habits.json {
-        core_objects(alloc, &functions)
+        core_objects(alloc, &functions, &signature)
     } else {
-        core_text(alloc, &functions)
+        core_text(alloc, &functions, &signature)
     };
     shown(loaded.name, text)
 }

@@ -13,8 +13,8 @@ mod stubbing;
 
 pub use cm_hux_json::{CoreRow, core_row, core_text};
 pub use cm_hux_play::files::{
-    Disk, DiskStreams, Ending, Fault, FileFault, Files, Loaded, Streams, ToolFault, Usage,
-    load_file, report, words_of,
+    Disk, DiskStreams, Ending, Fault, FileFault, Files, Loaded, Streams, ToolFault, load_file,
+    report, words_of,
 };
 pub use cm_hux_show::show_world;
 pub use commands::run_hux;

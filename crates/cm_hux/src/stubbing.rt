@@ -4,7 +4,8 @@ use crate::objects::tell_written;
 use cm_binary::encode;
 use cm_binary_model::Component;
 use cm_hux_play::files::{
-    Ending, Fault, Files, Streams, StubFault, caller_for, load_files, provider_for, write_file,
+    Ending, Fault, Files, Streams, StubFault, caller_for, load_files, provider_for,
+    refuse_to_overwrite, write_file,
 };
 use cm_hux_words::{Habits, StubWords};
 use std::alloc::Global;
@@ -20,6 +21,7 @@ pub(crate) fn run_stub<'a, F: Files, S: Streams, O: Write>(
     streams: &mut S,
     out: &mut O,
 ) -> Result<Ending, Fault<'a>> {
+    refuse_to_overwrite(alloc, words.out, &words.files)?;
     let bytes = stub_bytes(alloc, words, files)?;
     write_file(alloc, streams, words.out, &bytes)?;
     if habits.json {

@@ -1,8 +1,9 @@
 //! A call as a word of the command line says it: `NAME(VALUES)`.
 
-use cm_hux_drive::files::{Escaped, Fault};
+use crate::arguments::commas_before;
+use cm_hux_drive::files::{Escaped, Fault, type_text};
 use cm_types::{Func, TypeNode, TypeTree, Value};
-use cm_values::parse;
+use cm_values::{ValueFault, ValueReason, parse};
 use std::alloc::{AllocError, Global};
 use std::rc::Rc;
 
@@ -44,13 +45,11 @@ impl<'a> CallText<'a> {
         let Some(tuple) = tuple_of(alloc, func)? else {
             return Err(self.refuse(alloc, "parameters that are too many")?);
         };
-        match parse(alloc, values.as_bytes(), &tuple) {
-            Ok(Value::Fields(args)) => Ok(args),
-            Ok(_) => Err(self.refuse(alloc, "no arguments")?),
+        match parsed(alloc, values, &tuple) {
+            Ok(args) => Ok(args),
             Err(fault) => {
-                let at = self.at.saturating_add(fault.at);
-                let reason = fault.reason;
-                Err(self.refuse(alloc, format!(in alloc; "at {at}: {reason}")?.as_str())?)
+                let text = fault_text(alloc, func, values, self.at, fault)?;
+                Err(self.refuse(alloc, text.as_str())?)
             }
         }
     }
@@ -79,6 +78,47 @@ fn full_name(alloc: Global, name: &str) -> Result<String, AllocError> {
         Some((interface, function)) => format!(in alloc; "{interface}#{function}"),
         None => String::from_str(alloc, name),
     }
+}
+
+/// The values that a text in parentheses has, of the types of a tuple.
+fn parsed(alloc: Global, values: &str, tuple: &TypeTree) -> Result<Vec<Value>, ValueFault> {
+    match parse(alloc, values.as_bytes(), tuple) {
+        Ok(Value::Fields(args)) => Ok(args),
+        Ok(_) => Err(ValueFault {
+            at: 0,
+            reason: ValueReason::Unexpected,
+        }),
+        Err(fault) => Err(fault),
+    }
+}
+
+/// Why values that begin at a byte of a call are none of a function's parameters: where, why, and
+/// which parameter stands there.
+fn fault_text(
+    alloc: Global,
+    func: &Func,
+    values: &str,
+    begin: usize,
+    fault: ValueFault,
+) -> Result<String, AllocError> {
+    if fault.reason == ValueReason::Memory {
+        return Err(AllocError);
+    }
+    let parameter = parameter_text(alloc, func, commas_before(values, fault.at))?;
+    let (at, reason) = (begin.saturating_add(fault.at), fault.reason);
+    format!(in alloc; "at {at}: {reason}: {parameter}")
+}
+
+/// The parameter of a number, from 0, in words: its number from 1, its name and its type; or how
+/// many there are, where it is none of them.
+fn parameter_text(alloc: Global, func: &Func, number: usize) -> Result<String, AllocError> {
+    let count = func.params.len();
+    let Some(field) = func.params.get(number) else {
+        return format!(in alloc; "the function has parameters up to {count}");
+    };
+    let ty = type_text(alloc, &field.ty)?;
+    let (label, number) = (field.label.as_str(), number.saturating_add(1));
+    format!(in alloc; "parameter {number} of {count} is {label}: {ty}")
 }
 
 /// The tuple of the parameters of a function; none where it is too large.

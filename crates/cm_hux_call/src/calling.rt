@@ -7,7 +7,7 @@ use crate::drives::Drives;
 use crate::passing::{Answered, Passed, Results};
 use crate::resumed::Resumed;
 use crate::scripts::script_of;
-use cm_hux_drive::files::{Ending, Fault, Files, load_files};
+use cm_hux_drive::files::{Ending, Fault, Files, Stop, load_files};
 use cm_hux_drive::{HuxScript, Set};
 use cm_hux_words::CallWords;
 use cm_types::Func;
@@ -45,8 +45,17 @@ pub fn run_call<'a, F: Files, O: Write, E: Write>(
         set: &mut set,
         called,
     };
-    Ok(call.play(script, out, err)?)
+    let ending = call.play(script, out, err)?;
+    if words.script.is_none() && ending == Ending::Trapped {
+        // Where that fails, there is nobody left to tell.
+        let _ = writeln!(err, "{}", STILL);
+    }
+    Ok(ending)
 }
+
+/// What is said where a guest trapped and there was no script.
+const STILL: &str =
+    "without a script each guest stops at once: --script S plays moves, `hux live` core code";
 
 /// A call that is to be played: the names of the components, the set, and what is passed.
 #[derive(Drop)]
@@ -100,11 +109,16 @@ fn tell<O: Write>(
 ) -> Result<(), Fault<'static>> {
     let memory = set.memory(resumed.root()).unwrap_or(&[]);
     match results.answered(alloc, func, memory, resumed.values())? {
-        Answered::Nothing => Ok(()),
-        Answered::Value(text) => match resumed.write_line("result", text.as_str()) {
-            Ok(()) => Ok(()),
-            Err(stop) => Err(stop.fault()),
-        },
+        Answered::Nothing => end(resumed.write_result(None)),
+        Answered::Value(text) => end(resumed.write_result(Some(text.as_str()))),
         Answered::Fault(text) => Err(Fault::Refused(text)),
+    }
+}
+
+/// How the call ends where what was printed is written so.
+fn end(written: Result<(), Stop>) -> Result<(), Fault<'static>> {
+    match written {
+        Ok(()) => Ok(()),
+        Err(stop) => Err(stop.fault()),
     }
 }

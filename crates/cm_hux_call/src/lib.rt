@@ -1,6 +1,7 @@
 //! `hux call`: a call of a function that the last of several components exports.
 #![tactic(auto)]
 
+mod arguments;
 mod call_text;
 mod called;
 mod callers;

@@ -1,6 +1,6 @@
 //! What a call is answered with.
 
-use cm_hux_drive::files::{Fault, Object, Stop, tell, tell_fault, told};
+use cm_hux_drive::files::{Escaped, Fault, Object, Stop, tell, tell_fault, told};
 use cm_hux_drive::{Event, Move, Set, Watcher};
 use cm_machine_model::Flat;
 use std::alloc::Global;
@@ -39,12 +39,30 @@ impl<'o, O: Write> Resumed<'o, O> {
         &self.values
     }
 
+    /// Prints the result, if the function has one, and writes out all that was printed.
+    pub(crate) fn write_result(&mut self, answer: Option<&str>) -> Result<(), Stop> {
+        match answer {
+            Some(text) => self.write_line("result", text)?,
+            None => self.write_no_result()?,
+        }
+        self.out.flush()?;
+        Ok(())
+    }
+
+    /// Tells that there is no result, where objects are wanted.
+    fn write_no_result(&mut self) -> Result<(), Stop> {
+        if self.json {
+            told(tell(Object::new(self.alloc).with("result", ())?, self.out))?;
+        }
+        Ok(())
+    }
+
     /// Prints a line, which is this member of an object.
-    pub(crate) fn write_line(&mut self, member: &str, line: &str) -> Result<(), Stop> {
+    fn write_line(&mut self, member: &str, line: &str) -> Result<(), Stop> {
         if self.json {
             return told(tell(Object::new(self.alloc).with(member, line)?, self.out));
         }
-        writeln!(self.out, "{line}")?;
+        writeln!(self.out, "{}", Escaped(line))?;
         Ok(())
     }
 }

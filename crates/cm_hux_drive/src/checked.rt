@@ -2,8 +2,9 @@
 
 use crate::checking::Checks;
 use crate::driving::{Driven, Played, Seat, drive};
+use crate::traps::tell_trap;
 use crate::watcher::Watcher;
-use cm_hux_explain::{LastMove, Trap, explain_trap};
+use cm_hux_explain::Trap;
 use cm_hux_files::{Ending, Fault, LIMIT, Stop, ToolFault, report};
 use cm_hux_script::{HuxScript, Moment, Script};
 use cm_machine::{Event, Move, MoveQueue, Set};
@@ -72,21 +73,11 @@ impl<W: Watcher, E: Write> Watching<'_, W, E> {
     }
 
     /// Tells which move of which instance trapped, and the usual cause, unless a check expected it.
-    /// Where that fails, there is nobody left to tell.
     fn trapped(&mut self, trap: Trap, instance: u32, made: &Move) -> Ending {
         if self.checks.is_trap_expected() {
             return Ending::Done;
         }
-        let component = match self.names.get(instance as usize) {
-            Some(name) => name.as_str(),
-            None => "?",
-        };
-        let last = LastMove {
-            instance,
-            component,
-            made,
-        };
-        let _ = explain_trap(self.err, trap, last);
+        tell_trap(self.err, &self.names, trap, instance, made);
         Ending::Trapped
     }
 

@@ -32,9 +32,10 @@ struct Asked<'r> {
 /// The rows of the traps, misuses and reasons that the words name.
 ///
 /// A word is a name, in letters of either case, or a kind: `trap` or the name of an enum, as
-/// `ValidReason`. A kind with a number behind it names one row, and alone all rows of the kind, of
-/// which a line each is asked for. A name that several kinds have names each of them. `Unknown`
-/// comes for the first word that names nothing, and `Memory` where there is no memory.
+/// `ValidReason`; a text with blanks is as many words. A kind with a number behind it names one
+/// row, and alone all rows of the kind, of which a line each is asked for. A name that several
+/// kinds have names each of them. `Unknown` comes for the first word that names nothing, and
+/// `Memory` where there is no memory.
 pub fn find(alloc: Global, words: &[&str]) -> Result<Vec<Found>, ExplainFault> {
     let rows = all_rows(alloc)?;
     let mut asked = Asked {
@@ -63,9 +64,23 @@ pub fn write_found<O: Write>(found: &[Found], out: &mut O) -> io::Result<()> {
 }
 
 impl Asked<'_> {
-    fn read(&mut self, words: &[&str]) -> Result<(), ExplainFault> {
-        let mut kind: Option<&str> = None;
+    fn read<'w>(&mut self, words: &[&'w str]) -> Result<(), ExplainFault> {
+        let mut kind: Option<&'w str> = None;
         for word in words {
+            kind = self.read_words(kind, word)?;
+        }
+        self.add_kind(kind)
+    }
+
+    /// Reads the words of a text behind a kind, which stand for themselves, so that `'trap 15'` is
+    /// what `trap 15` is; answers the kind that the last of them is, if it is one.
+    fn read_words<'w>(
+        &mut self,
+        before: Option<&'w str>,
+        text: &'w str,
+    ) -> Result<Option<&'w str>, ExplainFault> {
+        let mut kind = before;
+        for word in text.split(' ') {
             kind = match (kind, word.parse::<u32>()) {
                 (Some(kind), Ok(number)) => {
                     self.add_number(kind, number)?;
@@ -77,7 +92,7 @@ impl Asked<'_> {
                 }
             };
         }
-        self.add_kind(kind)
+        Ok(kind)
     }
 
     /// The kind that a word is, if it is one; else its rows are added.

@@ -18,7 +18,7 @@ ending_status ending.Unread = 4
 abbrev pub fault_status : Fault → ℕ
 fault_status (fault.Usage text) = 2
 fault_status (fault.Tool f) = tool.fault_status f
-fault_status (fault.Unwritten name) = 4
-fault_status fault.Streams = 4
+fault_status (fault.Unwritten name kind) = 4
+fault_status fault.Input = 4
 fault_status fault.Output = 4
 fault_status _ = 1

@@ -33,12 +33,12 @@ pub enum Fault<'a> {
     /// A bundle is not made or taken.
     Bundle(Trouble<'a>),
     /// A file cannot be written.
-    Unwritten { name: &'a str },
-    /// What `live` reads from or writes to failed, or there was no memory for a line.
-    Streams,
+    Unwritten { name: &'a str, kind: io::ErrorKind },
+    /// Standard input cannot be read.
+    Input,
     /// So many moves were made, which are the most that `live` was to make.
     Moves { limit: u64 },
-    /// What a script or a call says is refused, in words.
+    /// What a script, a call or a line says is refused, in words.
     Refused(String),
     /// What `component_tool` says alike.
     Tool(ToolFault<'a>),
@@ -64,7 +64,7 @@ impl Fault<'_> {
             | Fault::Moves { .. }
             | Fault::Refused(_)
             | Fault::Memory => Ending::Refused,
-            Fault::Unwritten { .. } | Fault::Streams | Fault::Output => Ending::Unread,
+            Fault::Unwritten { .. } | Fault::Input | Fault::Output => Ending::Unread,
             Fault::Tool(fault) => ending_of_tool(fault),
         }
     }
@@ -151,18 +151,30 @@ impl fmt::Display for Fault<'_> {
             Fault::Unmet { name, fault } => write!(f, "{}: {fault}", Escaped(name)),
             Fault::Stub(fault) => write!(f, "{fault}"),
             Fault::Bundle(trouble) => write!(f, "{trouble}"),
-            Fault::Unwritten { name } => {
-                write!(f, "{}: Write: it cannot be written", Escaped(name))
+            Fault::Unwritten { name, kind } => {
+                write!(f, "{}: Write: {}", Escaped(name), why_unwritten(*kind))
             }
-            Fault::Streams => f.write_str(
-                "standard input, standard output or the record failed, or no memory for a line",
-            ),
+            Fault::Input => f.write_str("standard input: Read: it cannot be read"),
             Fault::Moves { limit } => write!(f, "limit: {limit} moves were made"),
             Fault::Refused(text) => f.write_str(text.as_str()),
             Fault::Tool(fault) => write!(f, "{fault}"),
             Fault::Memory => write!(f, "{}", ToolFault::Memory),
             Fault::Output => write!(f, "{}", ToolFault::Output),
         }
+    }
+}
+
+/// Why a file or a folder cannot be written, in words.
+fn why_unwritten(kind: io::ErrorKind) -> &'static str {
+    match kind {
+        io::ErrorKind::NotFound | io::ErrorKind::NotADirectory => "there is no such folder",
+        io::ErrorKind::IsADirectory => "it is a folder",
+        io::ErrorKind::AlreadyExists => "a file has this name",
+        io::ErrorKind::PermissionDenied => "it may not be written",
+        io::ErrorKind::ReadOnlyFilesystem => "nothing may be written there",
+        io::ErrorKind::StorageFull | io::ErrorKind::QuotaExceeded => "there is no room for it",
+        io::ErrorKind::OutOfMemory => "no memory",
+        _ => "it cannot be written",
     }
 }
 

@@ -81,8 +81,8 @@ fn with_fault(object: Object, fault: &Fault<'_>) -> Result<Object, AllocError> {
         }
         Fault::Stub(fault) => with_stub_fault(object, fault),
         Fault::Bundle(trouble) => with_trouble(object, trouble),
-        Fault::Unwritten { name } => object.with("name", "Write")?.with("file", *name),
-        Fault::Streams => object.with("name", "Streams"),
+        Fault::Unwritten { name, .. } => object.with("name", "Write")?.with("file", *name),
+        Fault::Input => object.with("name", "Input"),
         Fault::Moves { limit } => object.with("name", "Limit")?.with("limit", *limit),
         Fault::Refused(text) => {
             let line = line_number(text.as_str());

@@ -16,7 +16,7 @@ mod trouble;
 mod type_imports;
 
 pub use cm_bundle::Bundle;
-pub use cm_hux_json::{Object, ToValue, Value, event_object, line_of};
+pub use cm_hux_json::{Object, ToValue, Value, event_object, line_of, signature_rows, type_text};
 pub use cm_stubs::{Component, StubFault, caller, caller_for, provider_for};
 pub use cm_tool_commands::{
     Asked, Checked, Disk, Fault as ToolFault, FileFault, Files, LIMIT, Linked, Outcome, Unfit,
@@ -35,5 +35,7 @@ pub use loading::{
 };
 pub use making::{made, write_arguments};
 pub use stop::{Stop, told};
-pub use streams::{DiskStreams, Streams, create, write_file, write_whole};
+pub use streams::{
+    DiskStreams, Streams, create, refuse_to_overwrite, unwritten, write_file, write_whole,
+};
 pub use taking::read_bundle;

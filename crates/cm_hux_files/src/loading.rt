@@ -13,7 +13,7 @@ use cm_binary_model::Component;
 use cm_shims::{Place, ShimFault, Shimmed, fits, read};
 use cm_tool_commands::{
     BadFile, Checked, Fault as ToolFault, FileReason, Files, LinkFault, Linked, MAX_COMPONENTS,
-    ValidFault, checked_of, component_of, link, read_file, signature,
+    ValidFault, checked_of, link, read_file, signature,
 };
 use cm_tool_help_texts::{bytes_help, valid_help};
 use cm_tool_help_types::link_help;
@@ -120,18 +120,9 @@ impl<'a> Loaded<'a> {
         let FileReason::NotValid(fault) = bad.reason else {
             return of_file(bad, String::new(alloc));
         };
-        let tail = kept(alloc, self.help(alloc, fault));
+        let tail = kept(alloc, valid_help(alloc, &self.shimmed.component, fault));
         let reason = FileReason::NotValid(self.in_file(fault));
         of_file(BadFile { reason, ..bad }, tail)
-    }
-
-    /// What the items of a file have at a fault, in words. A file with shims numbers its types in
-    /// another way than the component that it stands for, so that the text is empty.
-    fn help(&self, alloc: Global, fault: ValidFault) -> Result<String, AllocError> {
-        match component_of(alloc, self.name, self.bytes.as_slice()) {
-            Ok(component) => valid_help(alloc, &component, fault),
-            Err(_) => Ok(String::new(alloc)),
-        }
     }
 
     /// A fault at the section and item of the file from which the component's come.
@@ -232,6 +223,15 @@ impl<'a> LoadedFiles<'a> {
     /// The files, in order.
     pub fn files(&self) -> &[Loaded<'a>] {
         &self.loaded
+    }
+
+    /// The bundle whose files they are, by its name and its bytes; none where they are files of
+    /// their own.
+    pub fn bundle(&self) -> Option<(&'a str, &[u8])> {
+        match &self.bundle {
+            Some((name, bytes)) => Some((name, bytes.as_slice())),
+            None => None,
+        }
     }
 
     /// The bytes of the files, in order.

@@ -1,13 +1,14 @@
 //! What `live` reads its lines from, and where files are written.
 
 use crate::fault::Fault;
+use cm_tool_help_texts::Escaped;
 use std::alloc::Global;
-use std::io::{BufRead, BufReader, BufWriter, Input, Write};
+use std::io::{BufWriter, Input, Read, Write};
 use std::{fs, io, rt};
 
 /// The input of a program, and files that it writes.
 pub trait Streams {
-    type Reader: BufRead + Drop;
+    type Reader: Read + Drop;
 
     type Writer: Write + Drop;
 
@@ -29,7 +30,7 @@ pub fn create<'a, S: Streams>(
 ) -> Result<S::Writer, Fault<'a>> {
     match streams.create(alloc, name) {
         Ok(writer) => Ok(writer),
-        Err(_) => Err(Fault::Unwritten { name }),
+        Err(error) => Err(unwritten(name, &error)),
     }
 }
 
@@ -42,8 +43,29 @@ pub fn write_file<'a, S: Streams>(
 ) -> Result<(), Fault<'a>> {
     match write_whole(alloc, streams, name, bytes) {
         Ok(()) => Ok(()),
-        Err(_) => Err(Fault::Unwritten { name }),
+        Err(error) => Err(unwritten(name, &error)),
     }
+}
+
+/// Refuses to write a file that is read too, since what it holds would be gone.
+pub fn refuse_to_overwrite(
+    alloc: Global,
+    name: &str,
+    files: &[&str],
+) -> Result<(), Fault<'static>> {
+    if files.contains(&name) {
+        let name = Escaped(name);
+        return Err(Fault::Refused(format!(in alloc;
+            "{name}: Write: it is one of the files that are read"
+        )?));
+    }
+    Ok(())
+}
+
+/// The fault of a file of this name that cannot be written.
+pub fn unwritten<'a>(name: &'a str, error: &io::Error) -> Fault<'a> {
+    let kind = error.kind();
+    Fault::Unwritten { name, kind }
 }
 
 /// The same, with the error of what failed.
@@ -71,12 +93,12 @@ impl<'r, R> DiskStreams<'r, R> {
 }
 
 impl<R: rt::Files + Input + AllocGlobal> Streams for DiskStreams<'_, R> {
-    type Reader = BufReader<R::Reader>;
+    type Reader = R::Reader;
 
     type Writer = BufWriter<R::File>;
 
-    fn reader(&mut self, alloc: Global) -> io::Result<BufReader<R::Reader>> {
-        BufReader::new(alloc, self.rt.reader())
+    fn reader(&mut self, _alloc: Global) -> io::Result<R::Reader> {
+        Ok(self.rt.reader())
     }
 
     fn create(&mut self, alloc: Global, name: &str) -> io::Result<BufWriter<R::File>> {

@@ -41,7 +41,9 @@ impl fmt::Display for Trouble<'_> {
                 f,
                 "the bundle: ImportsType in component {component}: nothing serves a type"
             ),
-            Trouble::NoBundle { name, fault } => write!(f, "{}: {fault}", Escaped(name)),
+            Trouble::NoBundle { name, fault } => {
+                write!(f, "{}: it is no bundle: {fault}", Escaped(name))
+            }
             Trouble::OtherLinks { name } => {
                 let name = Escaped(name);
                 write!(f, "{name}: OtherLinks: it is not the bundle of its files")

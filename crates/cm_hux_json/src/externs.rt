@@ -13,8 +13,8 @@ use cm_types_arena::{
 use serde_json::Value;
 use std::alloc::{AllocError, Global};
 
-/// A JSON object a line for each type that a signature names and that has no word of its own, each
-/// behind those that it holds, and then for each import and each export, in order.
+/// A JSON object a line for each type that a signature names and that has no word of its own, equal
+/// ones once, each behind those that it holds, and then for each import and each export, in order.
 ///
 /// A type has its number, from 0, as `type`, its word as `kind`, and what it is made of; where it
 /// is used it stands by its number, or by its word, as `"u32"`. An import or export has its name,
@@ -25,27 +25,55 @@ use std::alloc::{AllocError, Global};
 /// `TooLong` comes where the text has more than `MAX_SHOWN` bytes, and `Memory` where there is no
 /// memory. A type costs its own node once for each way in which its resources are counted.
 pub fn signature_objects(alloc: Global, signature: &Signature) -> Result<String, ShowFault> {
+    signature_rows(alloc, signature, "", "")
+}
+
+/// The same, with these words before each type, and before each import and export.
+pub fn signature_rows(
+    alloc: Global,
+    signature: &Signature,
+    before_type: &str,
+    before_extern: &str,
+) -> Result<String, ShowFault> {
     let numbered = Numbered::of(alloc, signature)?;
     let mut page = Page::new(alloc);
     for (number, used) in numbered.order.iter().enumerate() {
         let object = type_object(&numbered, number, *used)?;
-        page.put(object.line()?.as_str())?;
+        put_row(&mut page, before_type, object)?;
     }
-    put_externs(&mut page, &numbered, "import", signature.imports())?;
-    put_externs(&mut page, &numbered, "export", signature.exports())?;
+    put_externs(
+        &mut page,
+        &numbered,
+        before_extern,
+        "import",
+        signature.imports(),
+    )?;
+    put_externs(
+        &mut page,
+        &numbered,
+        before_extern,
+        "export",
+        signature.exports(),
+    )?;
     page.finish()
+}
+
+fn put_row(page: &mut Page, before: &str, object: Object) -> Result<(), ShowFault> {
+    let line = object.line()?;
+    page.put(before)?;
+    page.put(line.as_str())
 }
 
 fn put_externs(
     page: &mut Page,
     numbered: &Numbered<'_>,
+    before: &str,
     side: &str,
     externs: &Externs,
 ) -> Result<(), ShowFault> {
     for place in 0..externs.len() {
         if let Some(each) = externs.at(place) {
-            let object = extern_object(numbered, side, each)?;
-            page.put(object.line()?.as_str())?;
+            put_row(page, before, extern_object(numbered, side, each)?)?;
         }
     }
     Ok(())

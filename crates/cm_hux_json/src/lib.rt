@@ -13,12 +13,14 @@ mod met;
 mod names;
 mod numbered;
 mod objects;
+mod other_names;
 mod types;
 
+pub use cm_hux_show::type_text;
 pub use core_funcs::core_objects;
 pub use core_lines::core_text;
 pub use core_rows::{CoreRow, core_row};
 pub use events::event_object;
-pub use externs::signature_objects;
+pub use externs::{signature_objects, signature_rows};
 pub use objects::{Object, first_word, line_of};
 pub use serde_json::{ToValue, Value};

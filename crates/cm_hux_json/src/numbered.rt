@@ -1,6 +1,7 @@
 //! The types of a signature by their numbers.
 
 use crate::met::Met;
+use crate::types::made_object;
 use cm_hux_show::{Key, Used, primitive_word};
 use cm_types::TypeNode;
 use cm_types_arena::{Signature, Types};
@@ -8,14 +9,16 @@ use serde_json::{ToValue, Value};
 use std::alloc::{AllocError, Global};
 use std::collections::BTreeMap;
 
-/// The types that a signature names, by their numbers, from 0: each has a greater one than those
-/// that it holds. Those that have a word, as `u32`, have no number.
+/// The types that a signature names, by their numbers, from 0: equal ones have one number, and each
+/// has a greater one than those that it holds. Those that have a word, as `u32`, have no number.
 #[derive(Drop)]
 pub(crate) struct Numbered<'t> {
     pub(crate) alloc: Global,
     pub(crate) types: &'t Types,
     lasts: Vec<Option<u64>>,
     numbers: BTreeMap<Key, usize>,
+    /// The number of each type, by the line that tells what it is made of.
+    made: BTreeMap<String, usize>,
     pub(crate) order: Vec<Used>,
 }
 
@@ -28,6 +31,7 @@ impl<'t> Numbered<'t> {
             types: signature.types(),
             lasts,
             numbers: BTreeMap::new(alloc),
+            made: BTreeMap::new(alloc),
             order: Vec::new(alloc),
         };
         for each in used.values() {
@@ -36,13 +40,27 @@ impl<'t> Numbered<'t> {
         Ok(numbered)
     }
 
+    /// Gives a type its number, behind those that it holds.
     fn add(&mut self, used: Used) -> Result<(), AllocError> {
-        if self.word(used).is_none() {
-            let key = used.key(&self.lasts);
-            self.numbers.insert(key, self.order.len())?;
-            self.order.push(used)?;
+        if self.word(used).is_some() {
+            return Ok(());
         }
+        let line = made_object(self, used)?.line()?;
+        let known = self.made.get(&line).copied();
+        let number = match known {
+            Some(number) => number,
+            None => self.add_new(line, used)?,
+        };
+        self.numbers.insert(used.key(&self.lasts), number)?;
         Ok(())
+    }
+
+    /// The number of a type that is equal to none before, by the line of what it is made of.
+    fn add_new(&mut self, line: String, used: Used) -> Result<usize, AllocError> {
+        let number = self.order.len();
+        self.order.push(used)?;
+        self.made.insert(line, number)?;
+        Ok(number)
     }
 
     /// The node of a type, if there is one.

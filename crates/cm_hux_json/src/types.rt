@@ -13,7 +13,12 @@ pub(crate) fn type_object(
     number: usize,
     used: Used,
 ) -> Result<Object, AllocError> {
-    let object = Object::new(numbered.alloc).with("type", number)?;
+    made_object(numbered, used)?.with("type", number)
+}
+
+/// The object of a type without its number: that of each equal type.
+pub(crate) fn made_object(numbered: &Numbered<'_>, used: Used) -> Result<Object, AllocError> {
+    let object = Object::new(numbered.alloc);
     match numbered.node(used) {
         Some(node) => with_node(numbered, object.with("kind", kind_of(node))?, node, used),
         None => Ok(object),

@@ -7,13 +7,14 @@
 mod charted;
 mod diagram;
 mod graph;
+mod guarded;
+mod hearing;
 mod living;
 mod mirrored;
 mod named;
-mod overhearing;
+mod planned;
 mod playing;
 mod said_chart;
-mod said_lines;
 mod said_objects;
 mod telling;
 mod told_events;

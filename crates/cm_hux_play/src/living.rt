@@ -1,33 +1,39 @@
 //! Playing a linked set line by line.
 
+use crate::guarded::{Lines, MAX_LINE, Noted, ReadFault};
+use crate::hearing::Hearing;
 use crate::mirrored::Mirrored;
-use crate::named::component_names;
-use crate::overhearing::Overhearing;
-use crate::said_lines::SaidLines;
+use crate::named::{component_names, file_names};
+use crate::planned::write_plan;
 use cm_hux_drive::files::{
-    Ending, Fault, Files, Linked, LoadedFiles, Streams, ToolFault, create, load_files,
+    Ending, Fault, Files, Linked, LoadedFiles, Streams, ToolFault, create, load_files, unwritten,
 };
 use cm_hux_drive::lines::SetSize;
-use cm_hux_drive::{Set, make_set};
-use cm_hux_words::LiveWords;
-use cm_live::{Record, Served, Session, serve};
-use cm_live_plan::{pages_of, write_component};
+use cm_hux_drive::make_set;
+use cm_hux_words::{Habits, LiveWords};
+use cm_live::{Listener, Record, Served, Session, serve};
+use cm_live_plan::pages_of;
 use cm_tool_script::{read_u32, read_u64};
-use std::alloc::Global;
+use std::alloc::{AllocError, Global};
 use std::io;
-use std::io::{BufRead, Write};
+use std::io::{BufReader, Read, Write};
 
 /// Links the components of files, prints what an engine needs to instantiate their core modules,
-/// and plays them line by line. Calls and their values are written to standard error, where the
-/// words want it.
+/// and plays them line by line. Standard error is told of traps, unless only what is wrong is
+/// wanted, and of calls and their values, where the words want it.
+///
+/// Objects are not printed, and no file is standard input, which has the lines: such words are
+/// refused. Where the input ends within a line, or while a call is open, that is a fault.
 pub fn run_live<'a, F: Files, S: Streams, O: Write, E: Write>(
     alloc: Global,
     words: &LiveWords<'a>,
+    habits: Habits,
     files: &mut F,
     streams: &mut S,
     out: &mut O,
     err: &mut E,
 ) -> Result<Ending, Fault<'a>> {
+    check_words(alloc, words, habits)?;
     let limit = limit_of(alloc, words.limit)?;
     let (loaded, unread) = load_files(alloc, files, &words.files);
     let linked = loaded.link(alloc, unread)?;
@@ -36,8 +42,21 @@ pub fn run_live<'a, F: Files, S: Streams, O: Write, E: Write>(
         loaded: &loaded,
         linked: &linked,
         limit,
+        is_quiet: habits.quiet,
     };
     live.run(words, streams, out, err)
+}
+
+/// Refuses words that lines do not go with.
+fn check_words(alloc: Global, words: &LiveWords<'_>, habits: Habits) -> Result<(), Fault<'static>> {
+    let why = if habits.json {
+        "--json: the lines of live have a form of their own"
+    } else if words.files.iter().any(|name| *name == "-") {
+        "-: live reads its lines from standard input, and no component"
+    } else {
+        return Ok(());
+    };
+    Err(Fault::Usage(format!(in alloc; "error: {why}")?))
 }
 
 /// A linked set that is played line by line.
@@ -48,9 +67,11 @@ struct Live<'l, 'b, 'a> {
     linked: &'l Linked<'b>,
     /// The most moves.
     limit: u64,
+    /// Whether traps are not told.
+    is_quiet: bool,
 }
 
-impl<'b, 'a> Live<'_, 'b, 'a> {
+impl<'l, 'b, 'a> Live<'l, 'b, 'a> {
     fn run<S: Streams, O: Write, E: Write>(
         &self,
         words: &LiveWords<'a>,
@@ -73,58 +94,114 @@ impl<'b, 'a> Live<'_, 'b, 'a> {
         out: &mut O,
         err: &mut E,
     ) -> Result<Ending, Fault<'a>> {
-        let overheard = overheard(self.alloc, words.values, self.linked, &pages)?;
-        self.write_plan(out)?;
+        let names = component_names(self.alloc, self.loaded)?;
+        let files = file_names(self.alloc, self.loaded)?;
+        write_plan(self.alloc, self.loaded, self.linked, out)?;
+        let mirrored = self.mirrored(words.values, &pages)?;
         let mut record = record(self.alloc, words.record, pages, streams)?;
         let Ok(reader) = streams.reader(self.alloc) else {
-            return Err(Fault::Streams);
+            return Err(Fault::Input);
         };
-        let served = match overheard {
-            None => self.serve(session, reader, &mut record, out),
-            Some(set) => self.overhear(set, session, reader, &mut record, out, err),
-        };
-        ending_of(served, self.limit)
-    }
-
-    fn write_plan<O: Write>(&self, out: &mut O) -> Result<(), Fault<'static>> {
-        for (file, checked) in self.loaded.files().iter().zip(self.linked.components()) {
-            write_component(self.alloc, out, file.name, &file.bytes, checked)?;
-        }
-        Ok(())
-    }
-
-    fn serve<R: BufRead + Drop, K: Write, O: Write>(
-        &self,
-        session: &mut Session<'_, '_>,
-        mut reader: R,
-        record: &mut Option<Record<K>>,
-        out: &mut O,
-    ) -> io::Result<Served> {
-        serve(self.alloc, session, &mut reader, out, record, self.limit)
-    }
-
-    /// Plays the lines on the session, and on a set beside it, whose calls and values are written.
-    fn overhear<R: BufRead + Drop, K: Write, O: Write, E: Write>(
-        &self,
-        set: Set,
-        session: &mut Session<'_, '_>,
-        reader: R,
-        record: &mut Option<Record<K>>,
-        out: &mut O,
-        err: &mut E,
-    ) -> io::Result<Served> {
-        let alloc = self.alloc;
-        let names = component_names(alloc, self.loaded)?;
-        let lines = SaidLines {
+        let mut hearing = Hearing {
+            mirrored,
             names: names.as_slice(),
-            out: err,
+            files: told(self.is_quiet, &files),
+            err,
         };
-        let is_recorded = record.is_some();
-        let mut mirrored = Mirrored::new(alloc, self.linked, set, is_recorded, lines)?;
-        let mut reader = Overhearing::new(alloc, reader, &mut mirrored);
-        let served = serve(alloc, session, &mut reader, out, record, self.limit);
-        reader.finish();
-        served
+        let Ok(mut lines) = BufReader::new(self.alloc, Lines::new(reader)) else {
+            return Err(Fault::Memory);
+        };
+        self.serve(
+            session,
+            &mut lines,
+            words.record,
+            &mut record,
+            &mut hearing,
+            out,
+        )
+    }
+
+    /// A set like that of the session, where the values that pass are wanted.
+    fn mirrored(
+        &self,
+        wanted: bool,
+        pages: &[u32],
+    ) -> Result<Option<Mirrored<'l, 'b>>, Fault<'static>> {
+        if !wanted {
+            return Ok(None);
+        }
+        let set = make_set(self.alloc, self.linked, pages)?;
+        Ok(Some(Mirrored::new(self.alloc, self.linked, set)?))
+    }
+
+    /// Plays the lines on the session, and records them where a record of this name is given.
+    fn serve<'n, R: Read, K: Write, L: Listener, O: Write>(
+        &self,
+        session: &mut Session<'_, '_>,
+        lines: &mut BufReader<Lines<R>>,
+        name: Option<&'n str>,
+        record: &mut Option<Record<K>>,
+        listener: &mut L,
+        out: &mut O,
+    ) -> Result<Ending, Fault<'n>> {
+        let alloc = self.alloc;
+        let mut noted = Noted::new(out);
+        match serve(
+            alloc, session, lines, &mut noted, record, listener, self.limit,
+        ) {
+            Ok(Served::Ended) => Ok(ended(alloc, session, lines.get_ref())?),
+            Ok(Served::Trapped) => Ok(Ending::Trapped),
+            Ok(Served::Limit) => Err(Fault::Moves { limit: self.limit }),
+            Err(error) => {
+                let fault = lines.get_ref().fault();
+                Err(fault_of(alloc, &error, fault, noted.has_failed(), name)?)
+            }
+        }
+    }
+}
+
+/// These names, unless nothing is told.
+fn told(is_quiet: bool, names: &[String]) -> Option<&[String]> {
+    if is_quiet { None } else { Some(names) }
+}
+
+/// How a session ends with its input: it is at fault within a line, and while a call is open.
+fn ended<R: Read>(
+    alloc: Global,
+    session: &Session<'_, '_>,
+    lines: &Lines<R>,
+) -> Result<Ending, Fault<'static>> {
+    if lines.is_within_line() {
+        let text = String::from_str(alloc, "standard input ends within a line")?;
+        return Err(Fault::Refused(text));
+    }
+    match session.acting() {
+        Some(instance) => Err(Fault::Refused(format!(in alloc;
+            "standard input ends while a call is open, of component {instance}"
+        )?)),
+        None => Ok(Ending::Done),
+    }
+}
+
+/// Why serving failed, where reading has this fault, or none, and the output has failed or not. The
+/// moves are recorded to the file of this name, if there is one.
+fn fault_of<'n>(
+    alloc: Global,
+    error: &io::Error,
+    fault: Option<ReadFault>,
+    has_output_failed: bool,
+    record: Option<&'n str>,
+) -> Result<Fault<'n>, AllocError> {
+    match (fault, record) {
+        (Some(ReadFault::TooLong), _) => Ok(Fault::Refused(format!(in alloc;
+            "standard input: a line has more than {MAX_LINE} bytes"
+        )?)),
+        (Some(ReadFault::Failed), _) => Ok(Fault::Input),
+        (None, _) if has_output_failed => Ok(Fault::Output),
+        (None, Some(name)) if error.kind() != io::ErrorKind::OutOfMemory => {
+            Ok(unwritten(name, error))
+        }
+        (None, _) => Ok(Fault::Memory),
     }
 }
 
@@ -139,28 +216,6 @@ fn record<'a, S: Streams>(
         Some(name) => Ok(Some(Record::new(create(alloc, streams, name)?, pages))),
         None => Ok(None),
     }
-}
-
-fn ending_of(served: io::Result<Served>, limit: u64) -> Result<Ending, Fault<'static>> {
-    match served {
-        Ok(Served::Ended) => Ok(Ending::Done),
-        Ok(Served::Trapped) => Ok(Ending::Trapped),
-        Ok(Served::Limit) => Err(Fault::Moves { limit }),
-        Err(_) => Err(Fault::Streams),
-    }
-}
-
-/// A set like that of the session, where the values that pass are wanted.
-fn overheard(
-    alloc: Global,
-    wanted: bool,
-    linked: &Linked<'_>,
-    pages: &[u32],
-) -> Result<Option<Set>, Fault<'static>> {
-    if !wanted {
-        return Ok(None);
-    }
-    Ok(Some(make_set(alloc, linked, pages)?))
 }
 
 /// The most moves.

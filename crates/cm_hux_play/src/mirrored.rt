@@ -1,106 +1,75 @@
-//! A set beside that of a session, whose calls and values are written.
+//! A set beside that of a session, which is watched.
 
-use crate::overhearing::Listener;
-use crate::telling::{Teller, Telling};
-use cm_hux_drive::files::{Linked, Stop};
-use cm_hux_drive::{Misuse, Move, Set, Watcher};
-use cm_hux_said::Watch;
+use crate::telling::look_before;
+use cm_hux_drive::files::Linked;
+use cm_hux_drive::{Move, Set};
+use cm_hux_said::{Message, Watch};
 use cm_tool_script::Statement;
 use std::alloc::{AllocError, Global};
-use std::str;
 
-/// Plays each line on a set of its own, as the session that reads it does on its set: the values
-/// are those of that set, which gets the same statements. The session is not touched.
+/// Does on a set of its own what a session does on its set, and answers what passed: the values are
+/// those of this set, which gets the same statements. The session is not touched.
 #[derive(Drop)]
-pub(crate) struct Mirrored<'b, 'a, T> {
+pub(crate) struct Mirrored<'b, 'a> {
     alloc: Global,
     linked: &'b Linked<'a>,
     set: Set,
-    telling: Telling<'b, 'a, T>,
-    /// Whether the session records its moves, and whether a root call has begun then: `pages` is
-    /// refused from there on.
-    is_recorded: bool,
-    has_begun: bool,
-    /// Whether no more is written: there was no memory, or a line could not be written.
-    is_lost: bool,
+    watch: Watch<'b, 'a>,
 }
 
-impl<'b, 'a, T: Teller + Drop> Mirrored<'b, 'a, T> {
+impl<'b, 'a> Mirrored<'b, 'a> {
     /// A set like that of a session, of what is linked.
     pub(crate) fn new(
         alloc: Global,
         linked: &'b Linked<'a>,
         set: Set,
-        is_recorded: bool,
-        teller: T,
-    ) -> Result<Mirrored<'b, 'a, T>, AllocError> {
+    ) -> Result<Mirrored<'b, 'a>, AllocError> {
+        let watch = Watch::new(alloc, linked)?;
         Ok(Mirrored {
             alloc,
             linked,
             set,
-            telling: Telling::new(alloc, Watch::new(alloc, linked)?, teller),
-            is_recorded,
-            has_begun: false,
-            is_lost: false,
+            watch,
         })
     }
 
-    /// Does what a line says; nothing where the session refuses it.
-    fn play_line(&mut self, line: &[u8]) -> Result<(), Stop> {
-        let Some((_, content)) = line.split_last() else {
-            return Ok(());
-        };
-        let Ok(text) = str::from_utf8(content) else {
-            return Ok(());
-        };
-        match Statement::parse(self.alloc, text) {
-            Ok(Statement::Pages(pages)) => self.restart(pages.as_slice()),
-            Ok(Statement::Begin(root)) => self.begin(root),
-            Ok(Statement::Move(made)) => self.step(&made),
-            Ok(Statement::Guest(_)) | Err(_) => Ok(()),
+    /// Does a statement that the session did, and answers what passed by it, if anything.
+    /// `AllocError` comes where there is no memory; what is answered from then on means nothing.
+    pub(crate) fn play(&mut self, statement: &Statement) -> Result<Option<Message>, AllocError> {
+        match statement {
+            Statement::Pages(pages) => self.restart(pages.as_slice()),
+            Statement::Begin(root) => Ok(self.begin(*root)),
+            Statement::Move(made) => self.step(made),
+            Statement::Guest(_) => Ok(None),
         }
     }
 
-    fn restart(&mut self, pages: &[u32]) -> Result<(), Stop> {
-        if self.is_recorded && self.has_begun {
-            return Ok(());
-        }
+    /// Begins anew. The session has made such a set, so that memory alone may be missing.
+    fn restart(&mut self, pages: &[u32]) -> Result<Option<Message>, AllocError> {
         match Set::new(self.alloc, self.linked, pages) {
             Ok(set) => {
                 self.set = set;
-                Ok(())
+                Ok(None)
             }
-            Err(Misuse::Memory) => Err(Stop::Memory),
-            Err(_) => Ok(()),
+            Err(_) => Err(AllocError),
         }
     }
 
-    fn begin(&mut self, root: u32) -> Result<(), Stop> {
+    fn begin(&mut self, root: u32) -> Option<Message> {
         match self.set.begin(root) {
-            Ok(event) => {
-                self.has_begun = true;
-                self.telling.begin(&self.set, root, &event)
-            }
-            Err(_) => Ok(()),
+            Ok(_) => Some(self.watch.begin(root)),
+            Err(_) => None,
         }
     }
 
-    fn step(&mut self, made: &Move) -> Result<(), Stop> {
-        if self.set.acting().is_none() {
-            return Ok(());
-        }
-        self.telling.before(&self.set, made)?;
+    fn step(&mut self, made: &Move) -> Result<Option<Message>, AllocError> {
+        look_before(&mut self.watch, &self.set, made)?;
         match self.set.step(made) {
-            Ok(event) => self.telling.after(&self.set, &event),
-            Err(_) => Ok(()),
-        }
-    }
-}
-
-impl<T: Teller + Drop> Listener for Mirrored<'_, '_, T> {
-    fn hear(&mut self, line: &[u8]) {
-        if !self.is_lost && self.play_line(line).is_err() {
-            self.is_lost = true;
+            Ok(event) => {
+                let closed = self.set.closed_flags();
+                self.watch.after(&event, closed.as_slice())
+            }
+            Err(_) => Ok(None),
         }
     }
 }

@@ -15,3 +15,15 @@ pub fn component_names<'b>(
     }
     Ok(names)
 }
+
+/// The words of the command line that name the files.
+pub(crate) fn file_names(
+    alloc: Global,
+    loaded: &LoadedFiles<'_>,
+) -> Result<Vec<String>, AllocError> {
+    let mut names = Vec::with_capacity(alloc, loaded.files().len())?;
+    for file in loaded.files() {
+        names.push(String::from_str(alloc, file.name)?)?;
+    }
+    Ok(names)
+}

@@ -1,12 +1,12 @@
 //! Playing a script on the files of a command.
 
-use crate::named::component_names;
+use crate::named::{component_names, file_names};
 use crate::told_play::{Form, Play, Wanted};
 use cm_hux_drive::files::{Ending, Fault, Files, Linked, LoadedFiles, load_files};
 use cm_hux_drive::{HuxScript, Names, load_script, make_set};
 use cm_hux_words::{Habits, PlayWords};
 use cm_tool_script::read_u64;
-use std::alloc::{AllocError, Global};
+use std::alloc::Global;
 use std::io::Write;
 
 /// The most messages of a diagram where no option says more.
@@ -91,13 +91,4 @@ fn script_of<'a, F: Files>(
 ) -> Result<HuxScript, Fault<'a>> {
     let names = Names::of(alloc, linked.components())?;
     load_script(alloc, files, name, &names)
-}
-
-/// The words of the command line that name the files.
-fn file_names(alloc: Global, loaded: &LoadedFiles<'_>) -> Result<Vec<String>, AllocError> {
-    let mut names = Vec::with_capacity(alloc, loaded.files().len())?;
-    for file in loaded.files() {
-        names.push(String::from_str(alloc, file.name)?)?;
-    }
-    Ok(names)
 }

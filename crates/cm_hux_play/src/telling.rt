@@ -3,7 +3,7 @@
 use cm_hux_drive::files::{Fault, Stop};
 use cm_hux_drive::{Event, Move, Set, Watcher};
 use cm_hux_said::{Actor, Message, Watch};
-use std::alloc::Global;
+use std::alloc::{AllocError, Global};
 
 /// What is done with messages.
 pub(crate) trait Teller {
@@ -45,6 +45,26 @@ impl<'b, 'a, T: Teller> Telling<'b, 'a, T> {
     }
 }
 
+/// Shows a watch the move that the acting instance of a set is about to make.
+pub(crate) fn look_before(
+    watch: &mut Watch<'_, '_>,
+    set: &Set,
+    made: &Move,
+) -> Result<(), AllocError> {
+    let instance = set.acting().unwrap_or(0);
+    let closed = set.closed_flags();
+    let (Some(memory), Some(table)) = (set.memory(instance), set.table(instance)) else {
+        return Ok(());
+    };
+    let actor = Actor {
+        instance,
+        memory,
+        table,
+        closed: closed.as_slice(),
+    };
+    watch.before(&actor, made)
+}
+
 impl<T: Teller> Watcher for Telling<'_, '_, T> {
     fn begin(&mut self, _set: &Set, root: u32, _event: &Event) -> Result<(), Stop> {
         let message = self.watch.begin(root);
@@ -52,18 +72,7 @@ impl<T: Teller> Watcher for Telling<'_, '_, T> {
     }
 
     fn before(&mut self, set: &Set, made: &Move) -> Result<(), Stop> {
-        let instance = set.acting().unwrap_or(0);
-        let closed = set.closed_flags();
-        let (Some(memory), Some(table)) = (set.memory(instance), set.table(instance)) else {
-            return Ok(());
-        };
-        let actor = Actor {
-            instance,
-            memory,
-            table,
-            closed: closed.as_slice(),
-        };
-        self.watch.before(&actor, made)?;
+        look_before(&mut self.watch, set, made)?;
         Ok(())
     }
 

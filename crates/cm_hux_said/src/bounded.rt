@@ -66,7 +66,10 @@ impl Bounded {
     /// Puts a number in decimal digits.
     pub(crate) fn put_number(&mut self, number: u64) -> Result<(), AllocError> {
         let mut digits: ArrayString<20> = ArrayString::new();
-        let _fits = write!(digits, "{number}");
+        // There is room for the digits of each number, so this fails for want of memory alone.
+        if write!(digits, "{number}").is_err() {
+            return Err(AllocError);
+        }
         self.put(digits.as_str())
     }
 

@@ -3,9 +3,10 @@
 use crate::bounded::{Bounded, front_of};
 use crate::naming::Handles;
 use cm_types::{Case, Field, Label, TypeNode, TypeTree, Value};
-use cm_values::print;
+use cm_values::{PrintFault, print};
 use std::alloc::{AllocError, Global};
 use std::rc::Rc;
+use std::str;
 
 /// Puts a value whose handles are indices: `print` of cm_values, but for handles, which are
 /// named. Nothing is looked at behind a cut, so that a long value costs what is shown of it.
@@ -74,7 +75,8 @@ fn put_leaf(
     };
     match print(alloc, value, &tree) {
         Ok(text) => out.put(text.as_str()),
-        Err(_) => Ok(()),
+        Err(PrintFault::Memory) => Err(AllocError),
+        Err(PrintFault::WrongType) => Ok(()),
     }
 }
 
@@ -92,7 +94,11 @@ fn put_name(out: &mut Bounded, label: &str) -> Result<(), AllocError> {
     out.put(label)
 }
 
-/// Puts a list.
+/// How many bytes of a list are looked at beyond those that there is room for: with these the
+/// front that is UTF-8 passes the room, though a character is cut.
+const BEYOND: usize = 4;
+
+/// Puts a list; one of bytes that are a text as that text, in quotes.
 #[cycle(wording)]
 fn put_list(
     alloc: Global,
@@ -101,9 +107,50 @@ fn put_list(
     element: &TypeNode,
     handles: &Handles<'_, '_, '_>,
 ) -> Result<(), AllocError> {
+    if matches!(element, TypeNode::U8) {
+        let bytes = bytes_of(alloc, values, out.room().saturating_add(BEYOND))?;
+        if let Some(text) = text_of(&bytes, bytes.len() == values.len()) {
+            return put_text(alloc, out, text);
+        }
+    }
     out.put("[")?;
     put_items(alloc, out, values, element, handles)?;
     out.put("]")
+}
+
+/// The first of these bytes, at most so many.
+fn bytes_of(alloc: Global, values: &[Value], most: usize) -> Result<Vec<u8>, AllocError> {
+    let mut bytes = Vec::new(alloc);
+    for value in values.iter().take(most) {
+        if let Value::Unsigned(number) = value {
+            if let Ok(byte) = u8::try_from(*number) {
+                bytes.push(byte)?;
+            }
+        }
+    }
+    Ok(bytes)
+}
+
+/// The text that bytes are, which may end within a character where they are not whole; none where
+/// they are no text: there are none, they are not UTF-8, or have control characters beside those of
+/// lines.
+fn text_of(bytes: &[u8], is_whole: bool) -> Option<&str> {
+    let text = match str::from_utf8(bytes) {
+        Ok(text) => text,
+        Err(error) if is_whole || error.valid_up_to().saturating_add(BEYOND) <= bytes.len() =>
+            return None,
+        Err(error) => str::from_utf8(bytes.get(..error.valid_up_to())?).ok()?,
+    };
+    if text.is_empty() || text.chars().any(is_foreign) {
+        None
+    } else {
+        Some(text)
+    }
+}
+
+/// Whether no text has this character.
+fn is_foreign(c: char) -> bool {
+    c.is_control() && !matches!(c, '\n' | '\r' | '\t')
 }
 
 /// Puts values, with commas between them.

@@ -14,5 +14,5 @@ mod writer;
 
 pub use cm_tool_show::{MAX_SHOWN, ShowFault};
 pub use keys::{Key, Used, last_resources};
-pub use types::primitive_word;
+pub use types::{primitive_word, type_text};
 pub use world::show_world;

@@ -3,8 +3,9 @@
 use crate::keys::{Key, TypeKeys, Used};
 use crate::scope::{Name, Scope};
 use crate::writer::Writer;
-use cm_tool_show::ShowFault;
+use cm_tool_show::{Counting, Page, ShowFault, show_type};
 use cm_types::{Case, Field, Label, TypeNode};
+use std::alloc::{AllocError, Global};
 
 /// The most nodes of a type without a name that are written where it is used, each type with a name
 /// counted as one: a longer one gets a name.
@@ -25,6 +26,22 @@ pub fn primitive_word(node: &TypeNode) -> Option<&'static str> {
         TypeNode::Char => Some("char"),
         TypeNode::String => Some("string"),
         _ => None,
+    }
+}
+
+/// A type in one line, written out, with its resources numbered from 0; nothing where that would be
+/// longer than `MAX_SHOWN`.
+pub fn type_text(alloc: Global, node: &TypeNode) -> Result<String, AllocError> {
+    let mut page = Page::new(alloc);
+    match show_type(&mut page, node, Counting::new(None, None)) {
+        Ok(()) => {}
+        Err(ShowFault::TooLong) => return Ok(String::new(alloc)),
+        Err(ShowFault::Memory) => return Err(AllocError),
+    }
+    match page.finish() {
+        Ok(text) => Ok(text),
+        Err(ShowFault::TooLong) => Ok(String::new(alloc)),
+        Err(ShowFault::Memory) => Err(AllocError),
     }
 }
 

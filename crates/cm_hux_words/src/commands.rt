@@ -202,6 +202,24 @@ const OVERHEARD: Word = Word {
     tie: Tie::Free,
 };
 
+const NO_OBJECTS: Word = Word {
+    name: "json",
+    value: "",
+    help: "Is refused: the lines of live have a form of their own",
+    form: Form::Hidden,
+    letter: None,
+    tie: Tie::Free,
+};
+
+const NO_TRAPS: Word = Word {
+    name: "quiet",
+    value: "",
+    help: "Tells nothing of traps on standard error",
+    form: Form::Flag,
+    letter: Some('q'),
+    tie: Tie::Free,
+};
+
 const STUB_FILE: Word = Word {
     name: "out",
     value: "OUT",
@@ -383,7 +401,7 @@ Example:
 prints, to the lines begin 1 and call 0 i32:41,
   resume 1
   enter 0 0 i32:41",
-        words: &[FILES, RECORD, LIMIT, PAGES, OVERHEARD],
+        words: &[FILES, RECORD, LIMIT, PAGES, OVERHEARD, NO_TRAPS, NO_OBJECTS],
     },
     Described {
         name: "stub",

@@ -25,6 +25,8 @@ pub(crate) enum Form {
     Words,
     /// An option without a value.
     Flag,
+    /// The same, which the help does not name.
+    Hidden,
     /// An option with a value, which may be given once.
     Choice,
     /// An option with a value, which may be given again.
@@ -51,12 +53,15 @@ impl Form {
     }
 
     fn is_required(self) -> bool {
-        !matches!(self, Form::Flag | Form::Choice | Form::Choices)
+        !matches!(
+            self,
+            Form::Flag | Form::Hidden | Form::Choice | Form::Choices
+        )
     }
 
     fn action(self) -> ArgAction {
         match self {
-            Form::Flag => ArgAction::SetTrue,
+            Form::Flag | Form::Hidden => ArgAction::SetTrue,
             Form::Words | Form::Choices | Form::NeededAgain => ArgAction::Append,
             Form::Word | Form::Choice | Form::Needed => ArgAction::Set,
         }
@@ -85,6 +90,7 @@ impl Word {
     fn with_value<'a>(&self, arg: Arg<'a>) -> Arg<'a> {
         match self.form {
             Form::Flag => arg,
+            Form::Hidden => arg.hide(true),
             Form::Words => arg.value_name(self.value).num_args(1..),
             _ => arg.value_name(self.value),
         }

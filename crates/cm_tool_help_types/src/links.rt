@@ -26,15 +26,16 @@ pub fn link_help(
     let Some(import) = numbered(shown.as_str(), Side::Imports, fault.import) else {
         return Ok(String::new(alloc));
     };
-    let (name, meaning) = (import.name, meaning_of(fault.reason));
-    let mut out = format!(in alloc; ": {} imports \"{name}\", {meaning}", Escaped(file))?;
     let said = Said {
         import,
         importer: fault.component,
         reason: fault.reason,
     };
-    said.add_exporters(alloc, &mut out, files)?;
-    Ok(out)
+    let mut exporters = String::new(alloc);
+    let before = said.add_exporters(alloc, &mut exporters, files)?;
+    let (file, name) = (Escaped(file), import.name);
+    let meaning = meaning_of(fault.reason, before);
+    format!(in alloc; ": {file} imports \"{name}\", {meaning}{exporters}")
 }
 
 /// The text that shows a signature; nothing where it is too long.
@@ -63,24 +64,29 @@ struct Said<'a> {
 }
 
 impl Said<'_> {
-    /// Adds each file that exports the import's name, in some version.
+    /// Adds each file that exports the import's name, in some version, and answers how many of them
+    /// stand before the importer.
     fn add_exporters(
         self,
         alloc: Global,
         out: &mut String,
         files: &[(&str, Signature)],
-    ) -> Result<(), AllocError> {
+    ) -> Result<usize, AllocError> {
         let mut is_first = true;
+        let mut before: usize = 0;
         for (place, (file, signature)) in files.iter().enumerate().take(MAX_FILES) {
             let shown = shown(alloc, signature)?;
             if let Some(export) = self.exported(shown.as_str()) {
-                let before = if is_first { "; exported by " } else { ", " };
-                write!(out, "{before}{} (component {place})", Escaped(file))?;
+                let front = if is_first { "; exported by " } else { ", " };
+                write!(out, "{front}{} (component {place})", Escaped(file))?;
                 is_first = false;
+                if place < self.importer {
+                    before = before.saturating_add(1);
+                }
                 self.add_difference(alloc, out, place, export)?;
             }
         }
-        Ok(())
+        Ok(before)
     }
 
     /// What a shown component exports under the import's name, or else under another version of it.
@@ -140,11 +146,14 @@ fn changed_text(alloc: Global, import: Block<'_>, export: Block<'_>) -> Result<S
     }
 }
 
-/// What a reason says of the import.
-fn meaning_of(reason: LinkReason) -> &'static str {
+/// What a reason says of the import, which so many components before the importer export.
+fn meaning_of(reason: LinkReason, exporters: usize) -> &'static str {
     match reason {
         LinkReason::Empty | LinkReason::TooMany => "expected 1 to 16 components",
         LinkReason::NoProvider => "which no component before it exports",
+        LinkReason::TwoProviders if exporters == 1 => {
+            "of which one component before it exports more than one version that fits"
+        }
         LinkReason::TwoProviders => "which more than one component before it exports",
         LinkReason::MissingExport => "and the exported instance lacks an item of it",
         LinkReason::DifferentType => "and its type is not that of the export",

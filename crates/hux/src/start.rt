@@ -2,10 +2,19 @@
 
 use crate::painter::Painter;
 use crate::wanted::is_colored;
-use cm_hux::{Disk, DiskStreams, Ending, Fault, ToolFault, Usage, report, run_hux, words_of};
+use cm_hux::{Disk, DiskStreams, Ending, Fault, report, run_hux, words_of};
+use std::alloc::Global;
 use std::io;
 use std::io::{BufWriter, Input, IsTerminal, Write};
 use std::rt::{Env, Files};
+
+/// What is said where a word of the command line is no text.
+const NO_TEXT: &str = "error: a word of the command line is not UTF-8
+
+Usage: hux <COMMAND>
+
+For more information, try '--help'.
+";
 
 /// Runs the command of the program's words, which come after its name, on the files of the disk,
 /// and answers how it ends. Words that matter are colored where they go to a terminal.
@@ -19,7 +28,7 @@ pub fn start<
     match run(rt, out, &mut err) {
         Ok(ending) => ending,
         Err(error) => {
-            let fault = fault_of(&error);
+            let fault = fault_of(rt.alloc(), &error);
             report(&mut err, &fault);
             fault.ending()
         }
@@ -46,10 +55,12 @@ fn run<R: Env + Files + Input + AllocGlobal, O: Write + IsTerminal + Drop, E: Wr
 }
 
 /// Words that are no text are no command.
-fn fault_of(error: &io::Error) -> Fault<'static> {
+fn fault_of(alloc: Global, error: &io::Error) -> Fault<'static> {
     if error.kind() == io::ErrorKind::OutOfMemory {
-        Fault::Memory
-    } else {
-        Fault::Tool(ToolFault::Usage(Usage::NoText))
+        return Fault::Memory;
+    }
+    match String::from_str(alloc, NO_TEXT) {
+        Ok(text) => Fault::Usage(text),
+        Err(_) => Fault::Memory,
     }
 }
