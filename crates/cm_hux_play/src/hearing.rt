@@ -2,7 +2,7 @@
 
 use crate::mirrored::Mirrored;
 use cm_hux_drive::files::Stop;
-use cm_hux_drive::{Event, tell_trap};
+use cm_hux_drive::{Event, ShortMove, tell_trap};
 use cm_hux_said::write_message;
 use cm_live::{Answer, Listener};
 use cm_tool_script::Statement;
@@ -43,7 +43,7 @@ impl<E: Write> Hearing<'_, '_, '_, '_, E> {
         if let (Some(names), Some(instance), Statement::Move(made)) = (
             self.files, actor, statement,
         ) {
-            tell_trap(self.err, names, *trap, instance, made);
+            tell_trap(self.err, names, *trap, instance, &ShortMove(made));
         }
     }
 }

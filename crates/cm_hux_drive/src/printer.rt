@@ -1,11 +1,11 @@
-//! Watching a play.
+//! Who prints a play.
 
 use cm_hux_files::{Fault, Stop};
 use cm_machine::{Event, Move, Set};
 
-/// Watches a play: it sees each drive that begins, and then each move before it is made, and each
-/// event, in turn. Its first fault ends the play.
-pub trait Watcher {
+/// Prints a play: each drive that begins, and then each move before it is made, and each event, in
+/// turn. Its first fault ends the play.
+pub trait Printer {
     /// A drive begins with the root call of this instance, which is this event.
     fn begin(&mut self, set: &Set, root: u32, event: &Event) -> Result<(), Stop>;
 
