@@ -158,16 +158,26 @@ impl<'w, P: Printer, E: Write> Watching<'w, P, E> {
         Ok(())
     }
 
+    /// The instance that made the last move of the drive, if one was made.
+    fn mover(&self) -> Option<u32> {
+        match &self.made {
+            Some(made) => Some(made.instance),
+            None => None,
+        }
+    }
+
     /// Prints an event, that of `begin` where no move was made before it, makes the checks behind
     /// the move, and keeps the event.
     fn after(&mut self, set: &Set, event: &Event) -> Result<(), Stop> {
-        match &self.made {
-            None => self.printer.begin(set, set.acting().unwrap_or(0), event)?,
-            Some(made) => {
-                let component = made.instance as usize;
+        match self.mover() {
+            None => {
+                let root = set.acting().unwrap_or(0);
+                self.printer.begin(set, root, event)?;
+            }
+            Some(instance) => {
                 self.printer.after(set, event)?;
                 self.checks
-                    .behind_move(component, set, event, self.printer, self.err)?;
+                    .behind_move(instance as usize, set, event, self.printer, self.err)?;
             }
         }
         self.event = event.clone()?;

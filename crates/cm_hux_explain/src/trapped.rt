@@ -11,7 +11,7 @@ use std::{fmt, io};
 const MAX_BYTES: usize = 16;
 
 /// The move at which a drive trapped, as a text, and who made it.
-#[derive(Clone, Copy)]
+#[derive(Drop)]
 pub struct LastMove<'a, M> {
     /// The number of the instance, from 0, and the name of its component.
     pub instance: u32,
