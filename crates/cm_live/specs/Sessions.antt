@@ -7,8 +7,8 @@ use Rattle.cm_live.specs.declared.session.Session.{Session}
 
 -- the components that were linked, by their index spaces
 abbrev pub linked_of : Session → List Spaces
-linked_of s = set_in s.playing.linked.now
+linked_of s = set_in s.linked.now
 
 -- the set that is played
 abbrev pub set_of : Session → RunningSet
-set_of s = s.playing.set
+set_of s = s.played.set

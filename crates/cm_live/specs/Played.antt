@@ -1,8 +1,6 @@
 -- What holds of a set that is played, and of what is kept of it from moves and events.
 use Rattle.std.specs.Prelude.{◌≡◌, ℕ, List, [], ◌∷◌, None}
-use Rattle.cm_validate_model.specs.Spaces.{Spaces}
 use Rattle.cm_machine_links.specs.Planned.{ArePlanned}
-use Rattle.cm_machine_links.specs.Planning.{IsPlanOf}
 use Rattle.cm_machine.specs.cm_machine_model.History.{IsHistoryOf, Occurrence}
 use Rattle.cm_machine.specs.cm_machine_model.Plan.{Plan}
 use Rattle.cm_machine.specs.cm_machine_set.Running.{RunningSet}
@@ -14,7 +12,6 @@ use Rattle.cm_live.specs.Rooms.{AllMayCall, IsAsking}
 use Rattle.cm_live.specs.Told.{result_of}
 use Rattle.cm_live.specs.declared.goings_on.Call.{Call}
 use Rattle.cm_live.specs.declared.goings_on.GoingsOn.{GoingsOn}
-use Rattle.cm_live.specs.declared.results.ResultPlaces.{ResultPlaces}
 
 -- what goes on above the root, the latest first: who called, and where it wants a result that goes
 -- by memory and has not come
@@ -29,18 +26,11 @@ calls_of (tidying x asked back more ∷ ds) =
     record { caller = x.caller; result = None } ∷ calls_of ds
 calls_of (destroys dropper i ∷ ds) = record { caller = dropper; result = None } ∷ calls_of ds
 
--- The places of results are read from links that stand for the plan of what was linked.
-pub record ArePlacesOf (linked : List Spaces) (r : ResultPlaces) : Type 0 where
+-- A set has a history, and what is kept is so by it: who called what goes on, and where it wants
+-- results; what an allocator is asked for, and the rooms that it answered. What goes on below the
+-- latest has called.
+pub record IsPlayed (s : RunningSet) (g : GoingsOn) : Type 0 where
   pub plan : Plan
-  pub of_linked : IsPlanOf linked plan
-  pub planned : ArePlanned plan r.links
-
--- A set of what was linked has a history, and what is kept is so by it: who called what goes on,
--- and where it wants results; what an allocator is asked for, and the rooms that it answered. What
--- goes on below the latest has called.
-pub record IsPlayed (linked : List Spaces) (s : RunningSet) (g : GoingsOn) : Type 0 where
-  pub plan : Plan
-  pub of_linked : IsPlanOf linked plan
   pub pages : List ℕ
   pub past : List Occurrence
   pub planned : ArePlanned plan s.links

@@ -1,7 +1,6 @@
 use Rattle.std.proofs.Math.Logic.{∥∥₁_map}
-use Rattle.cm_match.specs.Linked.{set_in}
 use Rattle.cm_live.proofs.MirrorLaws.{Laws, begin_either}
-use Rattle.cm_live.proofs.playing.Playing.begin.Goals as goal
+use Rattle.cm_live.proofs.played.Played.begin.Goals as goal
 
 pub invariant_of-self : goal.invariant_of-self
 invariant_of-self c =
@@ -23,8 +22,7 @@ invariant_of-self c =
     let b = c.begin.ensures in
     let old = c.args.self.now in
     record {
-      places = old.places;
       played = ∥∥₁_map old.played
-          (begin_either (set_in old.linked.now) old.set old.going c.args.root c.begin.result
-          c.begin.new.self laws b.history b.err b.planned);
+          (begin_either old.set old.going c.args.root c.begin.result c.begin.new.self laws b.history
+          b.err b.planned);
     }
