@@ -10,7 +10,6 @@ mod graph;
 mod guarded;
 mod hearing;
 mod living;
-mod mirrored;
 mod named;
 mod planned;
 mod playing;

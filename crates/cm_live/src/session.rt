@@ -17,7 +17,7 @@ ghost use Rattle.cm_live.specs.Statements.{IsRefusedFor, TellsOf};
 use crate::answer::Answer;
 use crate::fault::LiveFault;
 use crate::played::Played;
-use cm_machine::{Linked, Misuse, Move};
+use cm_machine::{Linked, Misuse, Move, Set};
 use cm_tool_script::Statement;
 use std::alloc::Global;
 
@@ -67,6 +67,13 @@ impl<'c, 'a> Session<'c, 'a> {
         ensures { result ≡ option_map actor (top_of (set_of self.now).state.stack) }
     {
         self.played.acting()
+    }
+
+    /// The set that is played.
+    pub(crate) fn set(&self) -> &Set
+        ensures { result.now ≡ set_of self.now }
+    {
+        self.played.set()
     }
 
     /// The bytes of an instance's memory, or `None` where there is no such instance.
