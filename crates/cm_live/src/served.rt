@@ -74,9 +74,9 @@ impl Tally {
 /// Writes `ready`; then reads a line, does what it says, and writes and flushes its answer, line by
 /// line, until the input ends or so many moves were made. A line that is refused is answered
 /// `error: ` with the reason, and nothing has changed; so is a line that the input ends in, with no
-/// LF behind it. The listener sees a move before it is made, and hears of a statement that was done;
-/// it is recorded then, where a record is given, as a script that leads to the same events; and then
-/// it is answered.
+/// LF behind it. The listener sees a move before it is made, and hears of a statement that was
+/// done; it is recorded then, where a record is given, as a script that leads to the same events;
+/// and then it is answered.
 ///
 /// An error is one of the reader, the writer or the record, or that there is no memory for a line.
 /// What the lines did that were read until then is done.
