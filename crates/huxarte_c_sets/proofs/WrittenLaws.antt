@@ -5,7 +5,7 @@ use Rattle.cm_abi_model.specs.declared.region.Region.{Region}
 use Rattle.huxarte_c_calls.proofs.TextLaws.{written_front}
 use Rattle.huxarte_c_calls.specs.Texts.{written}
 use Rattle.huxarte_c_sets.specs.Written.{region_in}
-use Rattle.huxarte_c_sets.specs.declared.written.HuxRegion.{HuxRegion}
+use Rattle.huxarte_c_sets.specs.declared.telling.HuxRegion.{HuxRegion}
 
 -- as many regions are put there as there is room for
 pub regions_written : (room after : List HuxRegion) (regions : List Region) (count : ℕ) → count ≡ min (length regions) (length room)

@@ -5,8 +5,8 @@ use Rattle.huxarte_c_calls.specs.Texts.{written}
 use Rattle.huxarte_c_sets.specs.PlayedSets.{PlayedSet}
 use Rattle.huxarte_c_sets.specs.declared.refusal.SetRefusal.{SetRefusal}
 use Rattle.huxarte_c_sets.specs.declared.refusal.SetRefusal.TheVariants as refusal
-use Rattle.huxarte_c_sets.specs.declared.written.HuxRegion.{HuxRegion}
-use Rattle.huxarte_c_sets.specs.declared.written.HuxWritten.{HuxWritten}
+use Rattle.huxarte_c_sets.specs.declared.telling.HuxRegion.{HuxRegion}
+use Rattle.huxarte_c_sets.specs.declared.telling.HuxWritten.{HuxWritten}
 
 -- a region in numbers
 abbrev pub region_in : Region → HuxRegion

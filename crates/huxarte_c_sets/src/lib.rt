@@ -9,7 +9,7 @@ mod looking;
 mod making;
 mod moving;
 mod refusal;
-mod written;
+mod telling;
 
 pub use cores::{HUX_MAX_CORE, HuxCore};
 pub use event::HuxEvent;
@@ -18,4 +18,4 @@ pub use looking::{HuxInstance, HuxResource, HuxSetState, handle, instance, read,
 pub use making::make;
 pub use moving::{begin, call, give, grow, stop, write};
 pub use refusal::{HuxSetKind, SetRefusal};
-pub use written::{HuxRegion, HuxWritten, written};
+pub use telling::{HuxRegion, HuxWritten, written};

@@ -1,6 +1,6 @@
 use Rattle.std.proofs.Common.{◌≡◌, length, map, take}
 use Rattle.huxarte_c_sets.specs.Written.{region_in}
-use Rattle.huxarte_c_sets.proofs.written.put_regions.Given as goal
+use Rattle.huxarte_c_sets.proofs.telling.put_regions.Given as goal
 
 -- the regions so far stand in the buffer
 abbrev pub invariant-loop-i : goal.invariant-loop-i
