@@ -3,6 +3,7 @@ use Rattle.std.proofs.Common.{◌≡◌, ◌<◌, ◌⊎◌, inl, inr, ℕ, Bool
 use Rattle.std.proofs.Common.{length, Option, Some, None, refl, sym, ap, subst, ◌∙◌}
 use Rattle.std.specs.Prelude.{Err, IfOk, Ok, OnErr, Result, reverse, slice_index, unwrap_or}
 use Rattle.std.specs.Option.{option_map}
+use Rattle.std.specs.Result.{IsErrOf}
 use Rattle.std.specs.declared.alloc.Global.{Global}
 use Rattle.std.specs.declared.vec.Vec.{Vec}
 use Rattle.cm_types.specs.declared.core_value.CoreValue.{CoreValue}
@@ -499,6 +500,10 @@ keeps_nothing old g (move.Write at bytes) e new mover v k l none = tt
 keeps_nothing old g (move.Grow pages) e new mover v k l none = tt
 keeps_nothing old g (move.Call func args) e new mover v k l none = tt
 keeps_nothing old g move.Unreachable e new mover v k l none = tt
+
+-- what is done is not refused
+pub none_refused : {A E : Type 0} (v : A) (e : E) → IsErrOf {T = A} {E = E} (Ok v) e → ⊥
+none_refused {A} {E} v e same = subst (λ (r : Result A E). OnErr r ⊥) same tt
 
 -- what holds of a move that gives core values, and of one that gives none
 pub by_values : {A : Type 0} (gives : Bool) → (gives ≡ true → A) → (gives ≡ false → A) → A

@@ -1,20 +1,16 @@
 //! A set that is played move by move, and what goes on in it.
 
-ghost use Rattle.std.specs.Prelude.{◌≡◌, ◌⊎◌, ◌↔◌, [], false, IfErr, IfOk, IsErrOf, OnErr, OnOk};
+ghost use Rattle.std.specs.Prelude.{◌≡◌, ◌⊎◌, ◌↔◌, [], false, IfErr, IfOk, OnErr, OnOk};
 ghost use Rattle.std.specs.Prelude.{length};
 ghost use Rattle.std.specs.Option.{option_map};
 ghost use Rattle.std.specs.Result.{result_err};
 ghost use Rattle.cm_machine.specs.cm_machine_model.declared.event.Event.TheVariants as event;
-ghost use Rattle.cm_machine.specs.cm_machine_model.History.{begins, moves};
-ghost use Rattle.cm_machine.specs.cm_machine_model.Plan.{Plan};
+ghost use Rattle.cm_machine.specs.cm_machine_model.History.{begins};
 ghost use Rattle.cm_machine.specs.cm_machine_model.Run.{misuse_of_begin};
 ghost use Rattle.cm_machine.specs.cm_machine_model.Stack.{actor, top_of};
 ghost use Rattle.cm_machine.specs.cm_machine_model.State.{are_page_counts};
-ghost use Rattle.cm_machine.specs.cm_machine_model.Step.{Step};
-ghost use Rattle.cm_machine.specs.cm_machine_model.Valid.{IsValidState};
-ghost use Rattle.cm_machine.specs.cm_machine_set.Running.{GoesOnFrom, IsNew, begun};
+ghost use Rattle.cm_machine.specs.cm_machine_set.Running.{GoesOnFrom, IsNew, SetSteps, begun};
 ghost use Rattle.cm_machine.specs.cm_machine_laws.MemoryChanges.{SameMemories};
-ghost use Rattle.cm_machine_links.specs.Planned.{ArePlanned};
 ghost use Rattle.cm_match.specs.Linked.{set_in};
 ghost use Rattle.cm_live.specs.Mirrors.{Tells};
 ghost use Rattle.cm_live.specs.Played.{IsPlayed};
@@ -43,8 +39,8 @@ impl Played {
     /// Misuse: that of `Set::new`.
     pub fn new(alloc: Global, linked: &Linked<'_>, pages: &[u32]) -> Result<Played, Misuse>
         ensures new { IfOk result (λ p. IsNew (set_in linked.now) pages.now p.set) }
-        ensures bad_pages { IsErrOf result Misuse.BadPages
-            ↔ (are_page_counts (length (set_in linked.now)) pages.now ≡ false) }
+        ensures bad_pages { IfErr result (λ m. (m ≡ Misuse.BadPages)
+            ↔ (are_page_counts (length (set_in linked.now)) pages.now ≡ false)) }
         ensures only { IfErr result (λ m. (m ≡ Misuse.BadPages) ⊎ (m ≡ Misuse.Memory)) }
     {
         match Set::new(alloc, linked, pages) {
@@ -101,18 +97,11 @@ impl Played {
     /// for the list of what it may have told; else `Idle` where no call is on the stack. The set is
     /// then unchanged.
     pub fn step(&mut self, made: &Move) -> Result<(Written, Event), Misuse>
-        ensures step { (plan : Plan) → ArePlanned plan self.old.set.links
-            → IsValidState plan self.old.set.state → IfOk result (λ t.
-            Step plan self.old.set.state made.now t.1 self.new.set.state) }
-        ensures valid { (plan : Plan) → ArePlanned plan self.old.set.links
-            → IsValidState plan self.old.set.state → IsValidState plan self.new.set.state }
-        ensures history { IfOk result (λ t.
-            GoesOnFrom self.old.set (moves made.now) t.1 self.new.set) }
-        ensures planned { self.new.set.links ≡ self.old.set.links }
+        ensures acts { OnOk result (self.old.set.state.stack ≡ [] → ⊥) }
+        ensures steps { IfOk result (λ t. SetSteps self.old.set made.now t.1 self.new.set) }
         // Beside the moving instance's own write or growth, what is told is of all memories that
         // change.
         ensures told { IfOk result (λ t. Tells self.old.set made.now t.0 t.1 self.new.set) }
-        ensures acts { OnOk result (self.old.set.state.stack ≡ [] → ⊥) }
         ensures refused { IfErr result (IsNoStep self.old.set made.now) }
         ensures stays { OnErr result (self.new.set ≡ self.old.set) }
     {

@@ -15,8 +15,8 @@ use denote.Struct.Struct.{within}
 use denote.Struct.Owning.{shape}
 use Rattle.huxarte_c_boxes.specs.Keeping.{keeps}
 use Rattle.huxarte_c_boxes.proofs.Keeps.{one}
-use Rattle.cm_machine_set.specs.Running.{RunningSet as Seen}
-use Rattle.cm_machine_set.specs.contracts.set.Set.{the_row as R}
+use Rattle.huxarte_c_sets.specs.PlayedSets.{PlayedSet as Seen}
+use Rattle.huxarte_c_sets.specs.contracts.kept_set.KeptSet.{the_row as R}
 use Rattle.huxarte_c_sets.specs.contracts.hux_set.HuxSet as handle
 
 -- a pointer is a value of the type of pointers

@@ -13,6 +13,7 @@ use Rattle.cm_machine_model.specs.Work.{work_of}
 use Rattle.cm_machine_set.specs.Running.{RunningSet}
 use Rattle.cm_types.specs.declared.resource.ResourceId.{ResourceId}
 use Rattle.huxarte_c_calls.specs.declared.handles.HuxHandle.{HuxHandle}
+use Rattle.huxarte_c_sets.specs.PlayedSets.{PlayedSet}
 use Rattle.huxarte_c_sets.specs.declared.looking.HuxInstance.{HuxInstance}
 use Rattle.huxarte_c_sets.specs.declared.looking.HuxResource.{HuxResource}
 use Rattle.huxarte_c_sets.specs.declared.looking.HuxSetState.{HuxSetState}
@@ -20,10 +21,10 @@ use Rattle.huxarte_c_sets.specs.declared.refusal.SetRefusal.{SetRefusal}
 use Rattle.huxarte_c_sets.specs.declared.refusal.SetRefusal.TheVariants as refusal
 
 -- what is seen of the set that a handle keeps, if it keeps one
-abbrev pub looked : {A : Type 0} → (RunningSet → Result A SetRefusal) → Option RunningSet
+abbrev pub looked : {A : Type 0} → (RunningSet → Result A SetRefusal) → Option PlayedSet
     → Result A SetRefusal
 looked see None = Err refusal.Empty
-looked see (Some s) = see s
+looked see (Some s) = see s.set
 
 -- what stands in the place for it then: where nothing is seen, what stood there before
 abbrev pub told_or : {A : Type 0} → A → Result A SetRefusal → A
@@ -47,7 +48,7 @@ state_in s = record {
   lends = (work_of s.state).lends;
 }
 
-abbrev pub state_seen : Option RunningSet → Result HuxSetState SetRefusal
+abbrev pub state_seen : Option PlayedSet → Result HuxSetState SetRefusal
 state_seen kept = looked (λ s. Ok (state_in s)) kept
 
 -- ---- an instance
@@ -67,7 +68,7 @@ abbrev pub instance_in : ℕ → RunningSet → Result HuxInstance SetRefusal
 instance_in instance s =
     instance_by (is_closed s.state instance) (slice_get s.state.memories instance)
 
-abbrev pub instance_seen : Option RunningSet → ℕ → Result HuxInstance SetRefusal
+abbrev pub instance_seen : Option PlayedSet → ℕ → Result HuxInstance SetRefusal
 instance_seen kept instance = looked (instance_in instance) kept
 
 -- ---- bytes of a memory
@@ -81,7 +82,7 @@ part_by at count (Some memory) = if leb (at + count) (length memory)
 abbrev pub part_in : ℕ → ℕ → ℕ → RunningSet → Result (List ℕ) SetRefusal
 part_in instance at count s = part_by at count (slice_get s.state.memories instance)
 
-abbrev pub part_seen : Option RunningSet → ℕ → ℕ → ℕ → Result (List ℕ) SetRefusal
+abbrev pub part_seen : Option PlayedSet → ℕ → ℕ → ℕ → Result (List ℕ) SetRefusal
 part_seen kept instance at count = looked (part_in instance at count) kept
 
 -- ---- a handle
@@ -121,7 +122,7 @@ abbrev pub handle_in : ℕ → ℕ → ResourceId → RunningSet → Result HuxH
 handle_in instance index resource s =
     handle_of index resource (slice_get s.state.tables instance)
 
-abbrev pub handle_seen : Option RunningSet → ℕ → ℕ → HuxResource
+abbrev pub handle_seen : Option PlayedSet → ℕ → ℕ → HuxResource
     → Result HuxHandle SetRefusal
 handle_seen kept instance index resource =
     looked (handle_in instance index (resource_of resource)) kept

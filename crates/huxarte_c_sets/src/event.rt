@@ -2,12 +2,10 @@
 
 ghost use Rattle.std.specs.Prelude.{◌≡◌, []};
 ghost use Rattle.cm_machine_model.specs.declared.event.Event.TheVariants as event;
-ghost use Rattle.cm_machine_parts.specs.Rows.{event_of};
 ghost use Rattle.huxarte_c_sets.specs.Events.{event_in, event_with, grown_number, plain_event};
 
 use crate::cores::{HUX_MAX_CORE, HuxCore, placed};
-use cm_machine_model::Flat;
-use cm_machine_parts::Outcome;
+use cm_machine_model::{Event, Flat};
 
 /// What a move led to.
 #[repr(C)]
@@ -78,24 +76,36 @@ impl HuxEvent {
         event_with(4, instance, 0, &Flat::new())
     }
 
-    /// The event of an outcome, with these core values.
-    pub(crate) fn of(outcome: Outcome, values: &Flat) -> HuxEvent
-        ensures { result ≡ event_in (event_of outcome values.now) }
+    /// The event in numbers.
+    pub(crate) fn of(event: &Event) -> HuxEvent
+        ensures { result ≡ event_in event.now }
     {
-        match outcome {
-            Outcome::Done => plain_event(0, 0, 0, 0),
-            Outcome::Grown(pages) => plain_event(1, 0, 0, grown_number(pages)),
-            Outcome::Enter { instance, func } => event_with(2, instance, func, values),
-            Outcome::Realloc { instance, func } => event_with(3, instance, func, values),
-            Outcome::Resume { instance } => event_with(4, instance, 0, values),
-            Outcome::PostReturn { instance, func } => event_with(5, instance, func, values),
-            Outcome::Dtor {
+        match event {
+            Event::Done => plain_event(0, 0, 0, 0),
+            Event::Grown(pages) => plain_event(1, 0, 0, grown_number(*pages)),
+            Event::Enter {
+                instance,
+                func,
+                args,
+            } => event_with(2, *instance, *func, args),
+            Event::Realloc {
+                instance,
+                func,
+                args,
+            } => event_with(3, *instance, *func, args),
+            Event::Resume { instance, values } => event_with(4, *instance, 0, values),
+            Event::PostReturn {
+                instance,
+                func,
+                args,
+            } => event_with(5, *instance, *func, args),
+            Event::Dtor {
                 instance,
                 func,
                 rep,
-            } => plain_event(6, instance, func, rep),
-            Outcome::Trapped(trap) => plain_event(7, 0, 0, u32::from(trap.number())),
-            Outcome::Ended => plain_event(8, 0, 0, 0),
+            } => plain_event(6, *instance, *func, *rep),
+            Event::Trapped(trap) => plain_event(7, 0, 0, u32::from(trap.number())),
+            Event::Ended => plain_event(8, 0, 0, 0),
         }
     }
 }

@@ -3,10 +3,10 @@
 ghost use Rattle.std.specs.Prelude.{◌≡◌, None, Option, Some, is_some};
 ghost use Rattle.std.specs.Coded.{coded_option};
 ghost use Rattle.std.specs.Option.{option_map};
-ghost use Rattle.cm_machine_set.specs.Running.{RunningSet};
-ghost use Rattle.cm_machine_set.specs.contracts.set.Set.{the_row as set_row};
+ghost use Rattle.huxarte_c_sets.specs.PlayedSets.{PlayedSet};
+ghost use Rattle.huxarte_c_sets.specs.contracts.kept_set.KeptSet.{the_row as set_row};
 
-use cm_machine_set::Set;
+use crate::kept_set::KeptSet;
 use huxarte_c_boxes::Kept;
 use std::alloc::Global;
 use std::marker::Model;
@@ -21,19 +21,19 @@ use std::mem::replace;
 #[repr(C)]
 pub struct HuxSet {
     at: *mut u8,
-    pub ghost kept: { Option RunningSet } by { coded_option set_row.coded },
+    pub ghost kept: { Option PlayedSet } by { coded_option set_row.coded },
 }
 
 impl Model for HuxSet {
     ghost use Rattle.huxarte_c_boxes.specs.Keeping.{keeps};
-    ghost use Rattle.cm_machine_set.specs.contracts.set.Set.{the_row as set_row};
+    ghost use Rattle.huxarte_c_sets.specs.contracts.kept_set.KeptSet.{the_row as set_row};
 
     ghost also_owns = { λ h. keeps set_row h.at h.kept };
 }
 
 impl HuxSet {
     /// What is kept, as C holds it.
-    fn of(kept: Kept<Set>) -> HuxSet
+    fn of(kept: Kept<KeptSet>) -> HuxSet
         ensures { result.kept ≡ kept.value }
     {
         let Kept { at } = kept;
@@ -41,15 +41,15 @@ impl HuxSet {
     }
 
     /// What C holds.
-    fn into_kept(self) -> Kept<Set>
+    fn into_kept(self) -> Kept<KeptSet>
         ensures { result.value ≡ self.kept }
     {
         let HuxSet { at } = self;
-        Kept { at: at as *mut Set }
+        Kept { at: at as *mut KeptSet }
     }
 
     /// Takes the set out, where there is one; none is left.
-    pub fn take(&mut self, alloc: Global) -> Option<Box<Set>>
+    pub fn take(&mut self, alloc: Global) -> Option<Box<KeptSet>>
         ensures taken { option_map (λ b. b.value) result ≡ self.old.kept }
         ensures left { self.new.kept ≡ None }
     {
@@ -59,7 +59,7 @@ impl HuxSet {
     }
 
     /// Puts a set in; one that was there is dropped.
-    pub fn put(&mut self, alloc: Global, set: Box<Set>)
+    pub fn put(&mut self, alloc: Global, set: Box<KeptSet>)
         ensures { self.new.kept ≡ Some set.value }
     {
         let old = replace(self, HuxSet::of(Kept::of(set)));

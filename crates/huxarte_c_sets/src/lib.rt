@@ -4,10 +4,12 @@
 mod cores;
 mod event;
 mod hux_set;
+mod kept_set;
 mod looking;
 mod making;
 mod moving;
 mod refusal;
+mod telling;
 
 pub use cores::{HUX_MAX_CORE, HuxCore};
 pub use event::HuxEvent;
@@ -16,3 +18,4 @@ pub use looking::{HuxInstance, HuxResource, HuxSetState, handle, instance, read,
 pub use making::make;
 pub use moving::{begin, call, give, grow, stop, write};
 pub use refusal::{HuxSetKind, SetRefusal};
+pub use telling::{HuxRegion, HuxWritten, written};

@@ -96,7 +96,7 @@ fn look(alloc: Global, set: &mut HuxSet) -> Result<HuxSetState, SetRefusal>
     let Some(kept) = set.take(alloc) else {
         return Err(SetRefusal::Empty);
     };
-    let seen = state_in(&kept);
+    let seen = state_in(kept.set());
     set.put(alloc, kept);
     Ok(seen)
 }
@@ -130,7 +130,7 @@ fn look_at(alloc: Global, set: &mut HuxSet, instance: u32) -> Result<HuxInstance
     let Some(kept) = set.take(alloc) else {
         return Err(SetRefusal::Empty);
     };
-    let seen = instance_in(&kept, instance);
+    let seen = instance_in(kept.set(), instance);
     set.put(alloc, kept);
     seen
 }
@@ -204,13 +204,13 @@ fn find_handle(
     let Some(kept) = set.take(alloc) else {
         return Err(SetRefusal::Empty);
     };
-    let found = handle_in(&kept, instance, index, resource.id());
+    let found = handle_in(kept.set(), instance, index, resource.id());
     set.put(alloc, kept);
     found
 }
 
 /// Puts what was seen into the place for it, and answers what that comes to.
-fn tell<T: Copy>(found: Result<T, SetRefusal>, to: &mut T) -> HuxVerdict
+pub(crate) fn tell<T: Copy>(found: Result<T, SetRefusal>, to: &mut T) -> HuxVerdict
     ensures verdict { result ≡ verdict_by of_set found }
     ensures told { to.new ≡ told_or to.old found }
 {
@@ -264,7 +264,7 @@ pub fn read(
     let Some(kept) = set.take(alloc) else {
         return verdict(Err(SetRefusal::Empty));
     };
-    let copied = copy_part(kept.memory(instance), at, into);
+    let copied = copy_part(kept.set().memory(instance), at, into);
     set.put(alloc, kept);
     copied
 }

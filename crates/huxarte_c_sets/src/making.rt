@@ -1,17 +1,17 @@
 //! A set of the components of files.
 
 ghost use Rattle.std.specs.Prelude.{IfErr, IfOk, List, map, ℕ};
-ghost use Rattle.cm_machine_set.specs.Running.{IsNew};
 ghost use Rattle.cm_match.specs.Linked.{set_in};
 ghost use Rattle.cm_match_serving.specs.Sets.{set_of};
 ghost use Rattle.cm_shims.specs.Files.{AreRead, reading_of};
 ghost use Rattle.huxarte_c_calls.specs.Spans.{AreWithin, parts_of};
 ghost use Rattle.huxarte_c_sets.specs.Making.{IsMade, IsNewVerdict, IsSetLinked, IsSetOf, IsUnmade};
 ghost use Rattle.huxarte_c_sets.specs.Making.{IsUnmadeBy, IsUnmadeOf, IsUnmadeParts};
+ghost use Rattle.huxarte_c_sets.specs.PlayedSets.{IsNewPlayed};
 
 use crate::hux_set::HuxSet;
+use crate::kept_set::KeptSet;
 use crate::refusal::{SetRefusal, verdict};
-use cm_machine_set::Set;
 use cm_match::{Checked, Linked, link};
 use cm_shims::{Shimmed, check_files, read_files};
 use huxarte_c_calls::{HuxSpan, HuxVerdict};
@@ -19,11 +19,15 @@ use huxarte_c_components::{LinkRefusal, files_of};
 use std::alloc::Global;
 
 /// A set of what is linked.
-fn make_set(alloc: Global, linked: &Linked<'_>, pages: &[u32]) -> Result<Box<Set>, SetRefusal>
-    ensures made { IfOk result (λ b. IsNew (set_in linked.now) pages.now b.value) }
+fn make_set(
+    alloc: Global,
+    linked: &Linked<'_>,
+    pages: &[u32],
+) -> Result<Box<KeptSet>, SetRefusal>
+    ensures made { IfOk result (λ b. IsNewPlayed (set_in linked.now) pages.now b.value) }
     ensures refused { IfErr result (IsUnmadeBy (set_in linked.now) pages.now) }
 {
-    let set = match Set::new(alloc, linked, pages) {
+    let set = match KeptSet::new(alloc, linked, pages) {
         Ok(set) => set,
         Err(misuse) => return Err(SetRefusal::Misuse(misuse)),
     };
@@ -38,7 +42,7 @@ fn make_linked(
     alloc: Global,
     components: Vec<Checked<'_>>,
     pages: &[u32],
-) -> Result<Box<Set>, SetRefusal>
+) -> Result<Box<KeptSet>, SetRefusal>
     ensures made { IfOk result (λ b.
         IsSetLinked (set_of components.entry.items) pages.now b.value) }
     ensures refused { IfErr result (IsUnmade (set_of components.entry.items) pages.now) }
@@ -50,7 +54,7 @@ fn make_linked(
 }
 
 /// Links what files are read as, and makes a set of it.
-fn make_read(alloc: Global, files: &[Shimmed], pages: &[u32]) -> Result<Box<Set>, SetRefusal>
+fn make_read(alloc: Global, files: &[Shimmed], pages: &[u32]) -> Result<Box<KeptSet>, SetRefusal>
     ensures made { (bytes : List (List ℕ)) → AreRead bytes (map reading_of files.now)
         → IfOk result (λ b. IsSetOf bytes pages.now b.value) }
     ensures refused { (bytes : List (List ℕ)) → AreRead bytes (map reading_of files.now)
@@ -63,7 +67,7 @@ fn make_read(alloc: Global, files: &[Shimmed], pages: &[u32]) -> Result<Box<Set>
 }
 
 /// Links the components of files, and makes a set of them.
-fn make_files(alloc: Global, files: &[&[u8]], pages: &[u32]) -> Result<Box<Set>, SetRefusal>
+fn make_files(alloc: Global, files: &[&[u8]], pages: &[u32]) -> Result<Box<KeptSet>, SetRefusal>
     ensures made { IfOk result (λ b.
         IsSetOf (map (λ f. f.now) files.now) pages.now b.value) }
     ensures refused { IfErr result (IsUnmadeOf (map (λ f. f.now) files.now) pages.now) }
@@ -80,7 +84,7 @@ fn make_parts(
     bytes: &[u8],
     spans: &[HuxSpan],
     pages: &[u32],
-) -> Result<Box<Set>, SetRefusal>
+) -> Result<Box<KeptSet>, SetRefusal>
     ensures made { IfOk result (λ b. AreWithin bytes.now spans.now
         × IsSetOf (parts_of bytes.now spans.now) pages.now b.value) }
     ensures refused { IfErr result (IsUnmadeParts bytes.now spans.now pages.now) }

@@ -1,19 +1,21 @@
 //! A set that is played move by move.
 
-ghost use Rattle.std.specs.Prelude.{◌≡◌, IfErr, IfOk, OnErr, OnOk, map};
+ghost use Rattle.std.specs.Prelude.{◌≡◌, IfErr, IfOk, OnErr, OnOk, Some, map};
+ghost use Rattle.cm_live.specs.Statements.{IsNoStep};
 ghost use Rattle.cm_machine_model.specs.Moves.{CallsWith, ReturnsWith, WritesAt};
+ghost use Rattle.cm_machine_model.specs.declared.moves.Move.{Move as Made};
 ghost use Rattle.cm_machine_model.specs.declared.moves.Move.TheVariants as moves;
-ghost use Rattle.cm_machine_parts.specs.Rows.{event_of};
 ghost use Rattle.huxarte_c_sets.specs.Cores.{value_of};
 ghost use Rattle.huxarte_c_sets.specs.Kept.{Begins, IsDone, IsDoneVerdict, IsNoBegin, IsNoCoreMove};
-ghost use Rattle.huxarte_c_sets.specs.Kept.{IsNoListMove, IsNoMove, KeptBegins, KeptSteps, Moves};
+ghost use Rattle.huxarte_c_sets.specs.Kept.{IsNoListMove, IsNoMove, IsNoMoveBy, KeptBegins};
+ghost use Rattle.huxarte_c_sets.specs.Kept.{KeptSteps, Moves};
+ghost use Rattle.huxarte_c_sets.specs.PlayedSets.{PlayedSet};
 
 use crate::cores::{HuxCore, values_of};
 use crate::event::HuxEvent;
 use crate::hux_set::HuxSet;
 use crate::refusal::{SetRefusal, verdict};
-use cm_machine_model::{Flat, Move};
-use cm_machine_parts::Outcome;
+use cm_machine_model::{Event, Misuse, Move};
 use huxarte_c_calls::HuxVerdict;
 use std::alloc::Global;
 
@@ -29,7 +31,7 @@ fn begin_root(alloc: Global, set: &mut HuxSet, instance: u32) -> Result<(), SetR
     let begun = kept.begin(instance);
     set.put(alloc, kept);
     match begun {
-        Ok(_) => Ok(()),
+        Ok(()) => Ok(()),
         Err(misuse) => Err(SetRefusal::Misuse(misuse)),
     }
 }
@@ -53,26 +55,33 @@ fn begin_told(
     }
 }
 
-/// One move of the set that is kept: what it leads to, with its core values.
-fn step(
-    alloc: Global,
-    set: &mut HuxSet,
-    made: &Move,
-    values: &mut Flat,
-) -> Result<Outcome, SetRefusal>
-    ensures step { IfOk result (λ o.
-        KeptSteps set.old.kept made.now (event_of o values.new) set.new.kept) }
-    ensures refused { IfErr result (IsNoMove set.old.kept) }
+/// Why a move is not made.
+fn refusal_of(misuse: Misuse) -> SetRefusal
+    ensures { (s : PlayedSet) (m : Made) → IsNoStep s.set m misuse → IsNoMoveBy m (Some s) result }
+{
+    match misuse {
+        Misuse::Memory => SetRefusal::Memory,
+        Misuse::Idle => SetRefusal::Misuse(Misuse::Idle),
+        Misuse::Busy | Misuse::Closed | Misuse::NoInstance | Misuse::BadPages => {
+            SetRefusal::Misuse(misuse)
+        }
+    }
+}
+
+/// One move of the set that is kept: its event.
+fn step(alloc: Global, set: &mut HuxSet, made: &Move) -> Result<Event, SetRefusal>
+    ensures step { IfOk result (λ e. KeptSteps set.old.kept made.now e set.new.kept) }
+    ensures refused { IfErr result (IsNoMoveBy made.now set.old.kept) }
     ensures stays { OnErr result (set.new.kept ≡ set.old.kept) }
 {
     let Some(mut kept) = set.take(alloc) else {
         return Err(SetRefusal::Empty);
     };
-    let stepped = kept.step_in(made, values);
+    let stepped = kept.step(made);
     set.put(alloc, kept);
     match stepped {
-        Ok(outcome) => Ok(outcome),
-        Err(misuse) => Err(SetRefusal::Misuse(misuse)),
+        Ok(event) => Ok(event),
+        Err(misuse) => Err(refusal_of(misuse)),
     }
 }
 
@@ -83,13 +92,12 @@ fn make_move(
     made: &Move,
     event: &mut HuxEvent,
 ) -> Result<(), SetRefusal>
-    ensures { IsDone (Moves (λ m. m ≡ made.now) set.old.kept) (IsNoMove set.old.kept)
+    ensures { IsDone (Moves (λ m. m ≡ made.now) set.old.kept) (IsNoMoveBy made.now set.old.kept)
         set.old.kept set.new.kept event.old event.new result }
 {
-    let mut values = Flat::new();
-    match step(alloc, set, made, &mut values) {
-        Ok(outcome) => {
-            *event = HuxEvent::of(outcome, &values);
+    match step(alloc, set, made) {
+        Ok(led_to) => {
+            *event = HuxEvent::of(&led_to);
             Ok(())
         }
         Err(refusal) => Err(refusal),

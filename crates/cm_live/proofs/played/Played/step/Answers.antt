@@ -1,5 +1,6 @@
 use Rattle.std.proofs.Common.{subst, sym, refl}
 use Rattle.std.proofs.Math.Logic.{∥∥₁_map}
+use Rattle.cm_machine.specs.cm_machine_model.declared.event.Misuse.TheVariants as misuse
 use Rattle.cm_machine.specs.cm_machine_set.Running.{RunningSet}
 use Rattle.cm_machine_links.specs.Planned.{ArePlanned}
 use Rattle.cm_machine_links.specs.declared.links.Links.{Links}
@@ -7,7 +8,7 @@ use Rattle.cm_live.specs.Kept.{gives_values}
 use Rattle.cm_live.specs.Played.{IsPlayed}
 use Rattle.cm_live.proofs.CallsLaws.{kept_call}
 use Rattle.cm_live.proofs.MirrorLaws.{Laws, Moved, by_values, keeps_nothing, kept_plays, move_plays}
-use Rattle.cm_live.proofs.MirrorLaws.{move_told}
+use Rattle.cm_live.proofs.MirrorLaws.{move_told, none_refused}
 use Rattle.cm_live.proofs.played.Played.step.Goals as goal
 
 pub invariant_of-self : goal.invariant_of-self
@@ -121,3 +122,12 @@ returns-in-Ok-step-clause-told c =
     (λ l. by_values (gives_values m) (λ some. w.regions (room some) l)
     (λ none. w.no_more (nothing (keeps k) l none) l))
     (keeps k))
+
+pub returns-in-Ok-step-clause-acts : goal.returns-in-Ok-step-clause-acts
+returns-in-Ok-step-clause-acts c = λ empty.
+    none_refused c.in-Ok-step.event misuse.Idle (c.in-Ok-step.ensures.idle.1 empty)
+
+pub returns-in-Ok-step-clause-steps : goal.returns-in-Ok-step-clause-steps
+returns-in-Ok-step-clause-steps c =
+    let is = c.in-Ok-step.ensures in
+    record { step = is.step; valid = is.valid; history = is.history; planned = is.planned }

@@ -20,7 +20,7 @@ use Rattle.std.proofs.raw_atomic.Walks.{proved_at, leaves}
 use Rattle.std.proofs.ResultValues.{and_tt}
 use Rattle.huxarte_c_boxes.proofs.Keeps.{one, kept_out}
 use Rattle.huxarte_c_boxes.specs.contracts.kept.Kept as kept
-use Rattle.cm_machine_set.specs.contracts.set.Set.{the_row as R}
+use Rattle.huxarte_c_sets.specs.contracts.kept_set.KeptSet.{the_row as R}
 use Rattle.huxarte_c_sets.proofs.Values.{handle_in, pointer_good}
 use Rattle.huxarte_c_sets.specs.contracts.hux_set.HuxSet.of as f
 use Rattle.huxarte_c_sets.proofs.hux_set.HuxSet.of.Statement.{statement}
