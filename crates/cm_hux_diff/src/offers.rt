@@ -1,154 +1,184 @@
-//! What is there under a name, or under a compatible version of it.
+//! Imports or exports by their names.
 
-use crate::listed::Block;
-use semver::Version;
+ghost use Rattle.std.specs.Prelude.{◌≡◌, IfOk, None, option_and_then, slice_get};
+ghost use Rattle.cm_types_arena.specs.declared.types.Types.{Types};
+ghost use Rattle.cm_match_model.specs.Fitting.{fits};
+ghost use Rattle.cm_match_model.specs.Ranges.{exports_named};
+ghost use Rattle.cm_match_serving.specs.ExportTables.{HasExports};
+ghost use Rattle.cm_wit_conforms.specs.Places.{extern_names, place_in};
+ghost use Rattle.cm_hux_diff.specs.Facing.{face_of, found, greater_of, greatest_face};
+ghost use Rattle.cm_hux_diff.specs.Facing.{greatest_from, host_face, is_greater};
+
+use crate::facing::Face;
+use crate::names::names_of;
+use cm_match_model::Candidate;
+use cm_match_serving::Exports;
+use cm_types::ExternName;
+use cm_types_arena::Externs;
 use std::alloc::{AllocError, Global};
-use std::cmp::Ordering;
-use std::collections::BTreeMap;
 
-/// What is there for a name.
-#[derive(Clone, Copy)]
-pub(crate) enum Found {
-    /// What has the name, by its place.
-    Exact(usize),
-    /// What has its interface in a compatible version, the greatest one.
-    Compatible(usize),
-    /// What has its interface in another version alone.
-    Other(usize),
-    Nothing,
-}
-
-/// The versions of an interface of which each fits what asks for it or for an earlier one: its
-/// name, whether they are pre-releases of one release, and the numbers that they share.
-type Series<'a> = (&'a str, bool, (u64, u64, u64));
-
-/// What has the greatest version of a series: its place.
+/// Imports or exports by their names, and which of them fit a name.
 #[derive(Drop)]
-struct Greatest {
-    place: usize,
-    version: Version,
+pub(crate) struct Offers {
+    pub(crate) names: Vec<ExternName>,
+    table: Exports,
+    ghost told: { ∥ HasExports table (exports_named 0 names.items) ∥₁ },
 }
 
-/// Imports or exports by their names.
-#[derive(Drop)]
-pub(crate) struct Offers<'a> {
-    names: BTreeMap<&'a str, usize>,
-    /// The first of each interface, by its name without a version.
-    interfaces: BTreeMap<&'a str, usize>,
-    series: BTreeMap<Series<'a>, Greatest>,
+fn table_of(alloc: Global, names: &[ExternName]) -> Result<Exports, AllocError>
+    ensures { IfOk result (λ table. HasExports table (exports_named 0 names.now)) }
+{
+    let mut table = Exports::new(alloc);
+    for (place, name) in names.iter().enumerate() {
+        table.add(name, 0, place)?;
+    }
+    Ok(table)
 }
 
-impl<'a> Offers<'a> {
-    /// These.
-    pub(crate) fn new(alloc: Global, blocks: &[Block<'a>]) -> Result<Offers<'a>, AllocError> {
-        let mut offers = Offers {
-            names: BTreeMap::new(alloc),
-            interfaces: BTreeMap::new(alloc),
-            series: BTreeMap::new(alloc),
-        };
-        for (place, block) in blocks.iter().enumerate() {
-            offers.add(alloc, block.name, place)?;
-        }
-        Ok(offers)
+/// Whether what has a name fits what is wanted by another. Refused only where there is no memory.
+fn fits(alloc: Global, wanted: &ExternName, name: &ExternName) -> Result<bool, AllocError>
+    ensures { IfOk result (λ b. b ≡ fits wanted.now name.now) }
+{
+    let mut table = Exports::new(alloc);
+    table.add(name, 0, 0)?;
+    match table.candidate(alloc, wanted)? {
+        Candidate::None => Ok(false),
+        Candidate::One { .. } => Ok(true),
+        Candidate::Several => Ok(true),
+    }
+}
+
+/// What candidates are as a face.
+pub(crate) fn face_of(candidate: Candidate) -> Face
+    ensures { result ≡ face_of candidate }
+{
+    match candidate {
+        Candidate::None => Face::Nothing,
+        Candidate::One { export, .. } => Face::One(export),
+        Candidate::Several => Face::Several,
+    }
+}
+
+impl Offers {
+    /// These. Refused only where there is no memory.
+    pub(crate) fn new(alloc: Global, externs: &Externs) -> Result<Offers, AllocError>
+        ensures { IfOk result (λ o. (t : Types) → o.names.items ≡ extern_names t externs.now) }
+    {
+        let names = names_of(alloc, externs)?;
+        let table = table_of(alloc, &names)?;
+        Ok(Offers { names, table })
     }
 
-    fn add(&mut self, alloc: Global, name: &'a str, place: usize) -> Result<(), AllocError> {
-        self.names.insert(name, place)?;
-        let Some((interface, version)) = versioned(alloc, name)? else {
-            return Ok(());
+    /// What fits a name: nothing, one alone, or several.
+    pub(crate) fn found(&self, alloc: Global, wanted: &ExternName) -> Result<Candidate, AllocError>
+        ensures { IfOk result (λ c. c ≡ found self.now.names.items wanted.now) }
+    {
+        self.table.candidate(alloc, wanted)
+    }
+
+    /// Whether a name is greater than the greatest so far.
+    fn is_greater(
+        &self,
+        alloc: Global,
+        best: Option<usize>,
+        name: &ExternName,
+    ) -> Result<bool, AllocError>
+        ensures { IfOk result (λ b. b
+            ≡ is_greater (option_and_then (slice_get self.now.names.items) best) name.now) }
+    {
+        let Some(best) = best else {
+            return Ok(true);
         };
-        if self.interfaces.get(&interface).is_none() {
-            self.interfaces.insert(interface, place)?;
+        match self.names.get(best) {
+            Some(other) => Ok(!fits(alloc, name, other)?),
+            None => Ok(true),
         }
-        let series = series_of(interface, &version);
-        let is_greatest = match self.series.get(&series) {
-            Some(greatest) => is_before(&greatest.version, &version),
-            None => true,
-        };
-        if is_greatest {
-            self.series.insert(series, Greatest { place, version })?;
+    }
+
+    /// The greater of the greatest so far and a name at a place, if that fits what is wanted.
+    fn greater_of(
+        &self,
+        alloc: Global,
+        wanted: &ExternName,
+        best: Option<usize>,
+        place: usize,
+        name: &ExternName,
+    ) -> Result<Option<usize>, AllocError>
+        ensures { IfOk result (λ next. next
+            ≡ greater_of self.now.names.items wanted.now best place name.now) }
+    {
+        if !fits(alloc, wanted, name)? {
+            return Ok(best);
+        }
+        if self.is_greater(alloc, best, name)? {
+            Ok(Some(place))
+        } else {
+            Ok(best)
+        }
+    }
+
+    /// The place of the greatest that fits a name. It costs time linear in all of them.
+    #[tactic(auto, using(crate::proofs::Faces::greatest_laws))]
+    fn greatest(&self, alloc: Global, wanted: &ExternName) -> Result<Option<usize>, AllocError>
+        ensures { IfOk result (λ best. best
+            ≡ greatest_from self.now.names.items wanted.now None 0 self.now.names.items) }
+    {
+        let mut best = None;
+        for (place, name) in self.names.iter().enumerate() {
+            best = self.greater_of(alloc, wanted, best, place, name)?;
+        }
+        Ok(best)
+    }
+
+    /// What faces a name that no other has.
+    fn greatest_face(&self, alloc: Global, wanted: &ExternName) -> Result<Face, AllocError>
+        ensures { IfOk result (λ f. f ≡ greatest_face self.now.names.items wanted.now
+            (found self.now.names.items wanted.now)) }
+    {
+        match self.found(alloc, wanted)? {
+            Candidate::Several => match self.greatest(alloc, wanted)? {
+                Some(place) => Ok(Face::One(place)),
+                None => Ok(Face::Nothing),
+            },
+            one => Ok(face_of(one)),
+        }
+    }
+
+    /// What faces an import at the place of the one that has its name, if one has.
+    pub(crate) fn host_face(
+        &self,
+        alloc: Global,
+        wanted: &ExternName,
+        place: Option<usize>,
+    ) -> Result<Face, AllocError>
+        requires { place ≡ place_in self.now.names.items wanted.now }
+        ensures { IfOk result (λ f. f ≡ host_face self.now.names.items wanted.now) }
+    {
+        match place {
+            Some(place) => Ok(Face::One(place)),
+            None => self.greatest_face(alloc, wanted),
+        }
+    }
+
+    /// Marks those that fit a name. It costs time linear in all of them.
+    pub(crate) fn mark_fitting(
+        &self,
+        alloc: Global,
+        wanted: &ExternName,
+        marks: &mut [bool],
+    ) -> Result<(), AllocError> {
+        for (place, name) in self.names.iter().enumerate() {
+            if fits(alloc, wanted, name)? {
+                mark(marks, place);
+            }
         }
         Ok(())
     }
+}
 
-    /// What is there for a name: what has it, or else the greatest compatible version that is not
-    /// before it, as components are linked.
-    pub(crate) fn find(&self, alloc: Global, name: &'a str) -> Result<Found, AllocError> {
-        if let Some(place) = self.names.get(&name) {
-            return Ok(Found::Exact(*place));
-        }
-        let Some((interface, version)) = versioned(alloc, name)? else {
-            return Ok(Found::Nothing);
-        };
-        if let Some(place) = self.fitting(releases(interface, &version), &version) {
-            return Ok(Found::Compatible(place));
-        }
-        if let Some(place) = self.fitting(prereleases(interface, &version), &version) {
-            return Ok(Found::Compatible(place));
-        }
-        match self.interfaces.get(&interface) {
-            Some(place) => Ok(Found::Other(*place)),
-            None => Ok(Found::Nothing),
-        }
+/// Marks a place.
+pub(crate) fn mark(marks: &mut [bool], place: usize) {
+    if let Some(mark) = marks.get_mut(place) {
+        *mark = true;
     }
-
-    /// What has the greatest version of a series, if that is not before this one.
-    fn fitting(&self, series: Series<'a>, version: &Version) -> Option<usize> {
-        let greatest = self.series.get(&series)?;
-        if is_before(&greatest.version, version) {
-            return None;
-        }
-        // A release fits none of the pre-releases before it.
-        if version.pre.is_empty() && !greatest.version.pre.is_empty() {
-            return None;
-        }
-        Some(greatest.place)
-    }
-}
-
-/// An interface's name without its version, and the version, where it has one.
-fn versioned(alloc: Global, name: &str) -> Result<Option<(&str, Version)>, AllocError> {
-    let Some((interface, version)) = name.split_once('@') else {
-        return Ok(None);
-    };
-    match Version::parse(alloc, version) {
-        Ok(version) => Ok(Some((interface, version))),
-        // A name that a signature has is one, so what is refused is memory.
-        Err(_) => Err(AllocError),
-    }
-}
-
-fn is_before(a: &Version, b: &Version) -> bool {
-    matches!(a.cmp_precedence(b), Ordering::Less)
-}
-
-/// The series that a version belongs to.
-fn series_of<'a>(interface: &'a str, version: &Version) -> Series<'a> {
-    if version.pre.is_empty() {
-        releases(interface, version)
-    } else {
-        prereleases(interface, version)
-    }
-}
-
-/// The releases that are compatible with a version: they share its numbers up to the first that is
-/// not 0.
-fn releases<'a>(interface: &'a str, version: &Version) -> Series<'a> {
-    let numbers = if version.major > 0 {
-        (version.major, 0, 0)
-    } else if version.minor > 0 {
-        (0, version.minor, 0)
-    } else {
-        (0, 0, version.patch)
-    };
-    (interface, false, numbers)
-}
-
-/// The pre-releases of the release that a version is or leads to.
-fn prereleases<'a>(interface: &'a str, version: &Version) -> Series<'a> {
-    (
-        interface,
-        true,
-        (version.major, version.minor, version.patch),
-    )
 }
