@@ -7,7 +7,7 @@ use Rattle.cm_types.specs.Signatures.{NamedExtern, SignatureTy}
 use Rattle.cm_types.specs.declared.resource.ResourceId.{ResourceId}
 use Rattle.cm_types_arena.specs.Replaced.{Standing}
 use Rattle.cm_hux_diff.specs.Breaking.{AreBreaks, bound, marked}
-use Rattle.cm_hux_diff.specs.Facing.{hosted_from, names, user_face}
+use Rattle.cm_hux_diff.specs.Facing.{hosted_from, met_from, names, user_face}
 use Rattle.cm_hux_diff.specs.Held.{Entry, used_face}
 use Rattle.cm_hux_diff.specs.Views.{LinksOf, bound_in, faces_in, standing_of}
 use Rattle.cm_hux_diff.specs.declared.bound.Side.{Side}
@@ -46,3 +46,8 @@ hosted_are old new links of =
     ap (λ (l : List (List ℕ)). hosted_from l links.offers.names.items 0 links.imports.names.items) of.exports
     ∙ (ap (λ (l : List (List ℕ)). hosted_from (names old.exports) l 0 links.imports.names.items) of.offers
     ∙ ap (hosted_from (names old.exports) (names new.exports) 0) of.imports)
+
+pub met_are : (old new : SignatureTy) (links : Links) → LinksOf old new links → met_from links.exports.names.items links.offers.names.items 0 links.offers.names.items ≡ met_from (names old.exports) (names new.exports) 0 (names new.exports)
+met_are old new links of =
+    ap (λ (l : List (List ℕ)). met_from l links.offers.names.items 0 links.offers.names.items) of.exports
+    ∙ ap (λ (l : List (List ℕ)). met_from (names old.exports) l 0 l) of.offers

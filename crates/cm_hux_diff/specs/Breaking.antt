@@ -7,7 +7,7 @@ use Rattle.std.specs.Option.{option_or}
 use Rattle.cm_types.specs.Signatures.{NamedExtern, SignatureTy}
 use Rattle.cm_types.specs.declared.resource.ResourceId.{ResourceId}
 use Rattle.cm_types_arena.specs.Replaced.{Standing, replaced, replaced_func}
-use Rattle.cm_hux_diff.specs.Facing.{host_face, hosted_from, names}
+use Rattle.cm_hux_diff.specs.Facing.{host_face, hosted_from, met_from, names}
 use Rattle.cm_hux_diff.specs.Held.{Held, nothing, several, sorts, funcs, types, resources, Entry}
 use Rattle.cm_hux_diff.specs.Held.{host_entries, used_face, user_entries}
 use Rattle.cm_hux_diff.specs.declared.breaking.Break.{Break}
@@ -80,7 +80,8 @@ AreBreaks wanted offered (e ∷ es) bs =
     ⊎ ((¬ (Serves wanted offered e.held)) × (rest : List Break) × (bs ≡ break_of e ∷ rest)
     × AreBreaks wanted offered es rest)
 
--- What the new one in place of the old one breaks, and what faces each import and export.
+-- What the new one in place of the old one breaks, what faces each import and export, and which
+-- exports may clash with those of others.
 pub record IsBroken (old new : SignatureTy) (b : Broken) : Type 0 where
   pub imports : b.imports.items ≡ map (host_face (names old.imports)) (names new.imports)
   pub exports : b.exports.items ≡ map (used_face old new) (names old.exports)
@@ -92,3 +93,5 @@ pub record IsBroken (old new : SignatureTy) (b : Broken) : Type 0 where
       b.users.items
   pub hosted : b.hosted.items
       ≡ hosted_from (names old.exports) (names new.exports) 0 (names old.imports)
+  pub met : b.met.items
+      ≡ met_from (names old.exports) (names new.exports) 0 (names new.exports)

@@ -1,9 +1,10 @@
 -- Which imports and exports of two signatures face each other (how components are linked is this
 -- project's own choice: what fits a name is `fits` of cm_match_model).
-use Rattle.std.specs.Prelude.{ℕ, ◌+◌, Bool, true, false, ◌&&◌, ◌||◌, not, List, [], ◌∷◌, ◌++◌, map}
-use Rattle.std.specs.Prelude.{if◌then◌else◌, Option, Some, None, option_and_then, slice_get}
+use Rattle.std.specs.Prelude.{ℕ, ◌+◌, ◌==◌, Bool, true, false, ◌&&◌, ◌||◌, not, List, [], ◌∷◌, ◌++◌}
+use Rattle.std.specs.Prelude.{if◌then◌else◌, Option, Some, None, filter, map}
+use Rattle.std.specs.List.{list_any}
 use Rattle.cm_types.specs.Signatures.{NamedExtern}
-use Rattle.cm_match_model.specs.Fitting.{candidates, fits, only}
+use Rattle.cm_match_model.specs.Fitting.{NamedExport, candidates, only}
 use Rattle.cm_match_model.specs.Ranges.{exports_named}
 use Rattle.cm_match_model.specs.declared.candidates.Candidate.{Candidate}
 use Rattle.cm_match_model.specs.declared.candidates.Candidate.TheVariants as candidate
@@ -21,6 +22,10 @@ found texts wanted = only (candidates (exports_named 0 texts) wanted)
 abbrev pub is_none : Candidate → Bool
 is_none candidate.None = true
 is_none _ = false
+
+abbrev pub is_one : Candidate → Bool
+is_one (candidate.One component place) = true
+is_one _ = false
 
 abbrev pub is_several : Candidate → Bool
 is_several candidate.Several = true
@@ -62,36 +67,53 @@ hosted_from exports offered n (x ∷ xs) =
 
 -- ---- hosts
 
--- whether a name is greater than the greatest so far, which would else serve whoever wants it
-abbrev pub is_greater : Option (List ℕ) → List ℕ → Bool
-is_greater None name = true
-is_greater (Some best) name = not (fits name best)
+-- Of several versions of one interface that are compatible, the greatest: nothing else fits its
+-- name.
+abbrev pub is_greatest : List (List ℕ) → NamedExport → Bool
+is_greatest texts e = is_one (found texts e.name)
 
--- the greater of the greatest so far and this one at a place, if that fits
-abbrev pub greater_of : List (List ℕ) → List ℕ → Option ℕ → ℕ → List ℕ → Option ℕ
-greater_of texts wanted best n x =
-    if fits wanted x && is_greater (option_and_then (slice_get texts) best) x then Some n
-    else best
+-- the greatest of all series of versions, and what has no version
+abbrev pub greatest : List (List ℕ) → List NamedExport
+greatest texts = filter (is_greatest texts) (exports_named 0 texts)
 
--- the place of the greatest of those that fit, counted from n on, where this is it so far
-abbrev pub greatest_from : List (List ℕ) → List ℕ → Option ℕ → ℕ → List (List ℕ) → Option ℕ
-greatest_from texts wanted best n [] = best
-greatest_from texts wanted best n (x ∷ xs) =
-    greatest_from texts wanted (greater_of texts wanted best n x) (n + 1) xs
+abbrev pub one_or_several : Candidate → Face
+one_or_several (candidate.One component place) = face.One place
+one_or_several _ = face.Several
 
-abbrev pub face_at : Option ℕ → Face
-face_at None = face.Nothing
-face_at (Some place) = face.One place
-
--- what fits, or of several the greatest
+-- what fits, given that it is nothing, one or several, or of several the greatest
 abbrev pub greatest_face : List (List ℕ) → List ℕ → Candidate → Face
-greatest_face texts wanted candidate.Several = face_at (greatest_from texts wanted None 0 texts)
-greatest_face texts wanted one = face_of one
+greatest_face texts wanted candidate.None = face.Nothing
+greatest_face texts wanted (candidate.One component place) = face.One place
+greatest_face texts wanted candidate.Several =
+    one_or_several (only (candidates (greatest texts) wanted))
+
+-- what fits a name among these, or of several the greatest
+abbrev pub best_face : List (List ℕ) → List ℕ → Face
+best_face texts wanted = greatest_face texts wanted (found texts wanted)
 
 -- A host exports what the old one imports: what has the same name, or else what fits.
 abbrev pub host_face_by : List (List ℕ) → List ℕ → Option ℕ → Face
 host_face_by texts wanted (Some place) = face.One place
-host_face_by texts wanted None = greatest_face texts wanted (found texts wanted)
+host_face_by texts wanted None = best_face texts wanted
 
 abbrev pub host_face : List (List ℕ) → List ℕ → Face
 host_face texts wanted = host_face_by texts wanted (place_in texts wanted)
+
+-- ---- what may clash
+
+abbrev pub is_at : ℕ → Face → Bool
+is_at place (face.One at) = place == at
+is_at place _ = false
+
+-- An export of the new one, at a place, meets one of the old one's: that fits its name, or it is
+-- what fits the other's name, or of several the greatest. Whoever links beside the old one may
+-- export what meets none.
+abbrev pub is_met : List (List ℕ) → List (List ℕ) → ℕ → List ℕ → Bool
+is_met exports offered place name =
+    not (is_none (found exports name)) || list_any (is_at place) (map (best_face offered) exports)
+
+-- whether each of these does, counted from n on
+abbrev pub met_from : List (List ℕ) → List (List ℕ) → ℕ → List (List ℕ) → List Bool
+met_from exports offered n [] = []
+met_from exports offered n (x ∷ xs) =
+    is_met exports offered n x ∷ met_from exports offered (n + 1) xs

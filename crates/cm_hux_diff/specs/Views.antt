@@ -2,6 +2,8 @@
 use Rattle.std.specs.Prelude.{◌≡◌, ℕ, List, [], Option, Some, map, option_and_then}
 use Rattle.std.specs.Prelude.{slice_get, unwrap_or}
 use Rattle.std.specs.BTreeMap.{get}
+use Rattle.std.specs.BTreeSet.{BTreeSet, contains}
+use Rattle.std.specs.List.{list_any}
 use Rattle.std.specs.Option.{option_map, option_map_or}
 use Rattle.std.specs.Ordering.{nat_cmp}
 use Rattle.cm_types.specs.declared.resource.ResourceId.{ResourceId}
@@ -20,7 +22,7 @@ use Rattle.cm_types_numbers.specs.Moved.{brought_func, brought_type}
 use Rattle.cm_types_numbers.specs.Numbering.{numbering}
 use Rattle.cm_types_numbers.specs.PlacedTables.{KnowsPlaced}
 use Rattle.cm_hux_diff.specs.Breaking.{at_host, marked}
-use Rattle.cm_hux_diff.specs.Facing.{host_face, names, user_face}
+use Rattle.cm_hux_diff.specs.Facing.{best_face, host_face, is_at, names, user_face}
 use Rattle.cm_hux_diff.specs.Held as all
 use Rattle.cm_hux_diff.specs.declared.links.Links.{Links}
 use Rattle.cm_hux_diff.specs.declared.facing.Face.{Face}
@@ -90,6 +92,12 @@ pub record AreKnown (wanted offered : Side) (tables : Tables) : Type 0 where
 abbrev pub faces_in : Links → List ℕ → Face
 faces_in links =
     user_face links.imports.names.items links.exports.names.items links.offers.names.items
+
+-- These are the places of the exports of the new one that fit the name of one of the old one's, of
+-- several the greatest.
+abbrev pub IsFaced : Links → BTreeSet ℕ → Type 0
+IsFaced links places = (n : ℕ) → contains nat_cmp places n
+    ≡ list_any (is_at n) (map (best_face links.offers.names.items) links.exports.names.items)
 
 -- The names of the imports and exports of the old one, and of the exports of the new one, are in
 -- these tables.

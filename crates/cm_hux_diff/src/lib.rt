@@ -14,6 +14,7 @@ mod listed;
 mod names;
 mod offers;
 mod pairs;
+mod parts;
 mod replacing;
 mod telling;
 mod uses;

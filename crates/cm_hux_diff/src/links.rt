@@ -1,20 +1,23 @@
 //! Which imports and exports of two signatures face each other.
 
-ghost use Rattle.std.specs.Prelude.{◌≡◌, ◌++◌, IfOk, None, OnOk, map, slice_index_or};
+ghost use Rattle.std.specs.Prelude.{◌≡◌, ◌++◌, ◌||◌, IfOk, None, OnOk, map, slice_index_or, ℕ};
+ghost use Rattle.std.specs.BTreeSet.{contains};
+ghost use Rattle.std.specs.Ordering.{nat_cmp};
 ghost use Rattle.cm_types_arena.specs.Signatures.{imports_in, signature_of};
 ghost use Rattle.cm_wit_conforms.specs.Places.{place_in};
-ghost use Rattle.cm_hux_diff.specs.Facing.{host_face, hosted_at, hosted_from, is_hosted};
-ghost use Rattle.cm_hux_diff.specs.Facing.{is_left_out, names};
-ghost use Rattle.cm_hux_diff.specs.Views.{LinksOf, faces_in};
+ghost use Rattle.cm_hux_diff.specs.Facing.{host_face, hosted_at, hosted_from, is_at, is_hosted};
+ghost use Rattle.cm_hux_diff.specs.Facing.{is_left_out, is_met, met_from, names};
+ghost use Rattle.cm_hux_diff.specs.Views.{IsFaced, LinksOf, faces_in};
 
 use crate::facing::Face;
 use crate::names::names_of;
-use crate::offers::{Offers, face_of, mark};
+use crate::offers::{Offers, face_of};
 use cm_match_model::Candidate;
 use cm_types::ExternName;
 use cm_types_arena::Signature;
 use cm_wit_conforms::extern_places;
 use std::alloc::{AllocError, Global};
+use std::collections::BTreeSet;
 
 /// The place that was found for the name at a place.
 fn place_at(places: &[Option<usize>], place: usize) -> Option<usize>
@@ -60,6 +63,22 @@ pub(crate) fn host_faces(
     let wanted = names_of(alloc, imports)?;
     let places = extern_places(alloc, imports, served)?;
     faces_of(alloc, &offers, &wanted, &places)
+}
+
+/// Adds the place of what faces something, if it is one.
+fn add_faced(places: &mut BTreeSet<usize>, face: Face) -> Result<(), AllocError>
+    ensures { OnOk result ((n : ℕ) → contains nat_cmp places.new n
+        ≡ (is_at n face || contains nat_cmp places.old n)) }
+{
+    match face {
+        Face::One(place) => {
+            places.insert(place)?;
+        }
+        Face::LeftOut => {}
+        Face::Nothing => {}
+        Face::Several => {}
+    }
+    Ok(())
 }
 
 /// What users look for the exports of the old one in.
@@ -175,33 +194,49 @@ impl Links {
         Ok(places)
     }
 
-    /// Which exports of the new one fit the name of one of the old one's, or the reverse. Refused
-    /// only where there is no memory.
-    pub(crate) fn met(&self, alloc: Global) -> Result<Vec<bool>, AllocError> {
-        let mut met = Vec::with_capacity(alloc, self.offers.names.len())?;
-        for name in &self.offers.names {
-            met.push(!matches!(self.exports.found(alloc, name)?, Candidate::None))?;
-        }
+    /// The places of the exports of the new one that fit the name of one of the old one's, of
+    /// several the greatest.
+    fn faced(&self, alloc: Global) -> Result<BTreeSet<usize>, AllocError>
+        ensures { IfOk result (IsFaced self.now) }
+    {
+        let mut places = BTreeSet::new(alloc);
         for name in &self.exports.names {
-            self.mark_met(alloc, name, &mut met)?;
+            add_faced(&mut places, self.offers.best_face(alloc, name)?)?;
         }
-        Ok(met)
+        Ok(places)
     }
 
-    /// Marks the exports of the new one that fit the name of one of the old one's.
-    fn mark_met(
+    /// Whether an export of the new one meets one of the old one's, where these are faced.
+    fn is_met(
         &self,
         alloc: Global,
-        wanted: &ExternName,
-        met: &mut [bool],
-    ) -> Result<(), AllocError> {
-        match self.offers.found(alloc, wanted)? {
-            Candidate::None => Ok(()),
-            Candidate::One { export, .. } => {
-                mark(met, export);
-                Ok(())
-            }
-            Candidate::Several => self.offers.mark_fitting(alloc, wanted, met),
+        faced: &BTreeSet<usize>,
+        place: usize,
+        name: &ExternName,
+    ) -> Result<bool, AllocError>
+        requires { IsFaced self.now faced.now }
+        ensures { IfOk result (λ b. b ≡ is_met self.now.exports.names.items
+            self.now.offers.names.items place name.now) }
+    {
+        match self.exports.found(alloc, name)? {
+            Candidate::None => Ok(faced.contains(&place)),
+            Candidate::One { .. } => Ok(true),
+            Candidate::Several => Ok(true),
         }
+    }
+
+    /// Which exports of the new one fit the name of one of the old one's, of several the greatest,
+    /// or the reverse. Refused only where there is no memory.
+    #[tactic(auto, using(crate::proofs::Faces::met_laws))]
+    pub(crate) fn met(&self, alloc: Global) -> Result<Vec<bool>, AllocError>
+        ensures { IfOk result (λ v. v.items ≡ met_from self.now.exports.names.items
+            self.now.offers.names.items 0 self.now.offers.names.items) }
+    {
+        let faced = self.faced(alloc)?;
+        let mut met = Vec::with_capacity(alloc, self.offers.names.len())?;
+        for (place, name) in self.offers.names.iter().enumerate() {
+            met.push(self.is_met(alloc, &faced, place, name)?)?;
+        }
+        Ok(met)
     }
 }

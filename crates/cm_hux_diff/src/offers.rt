@@ -1,13 +1,13 @@
 //! Imports or exports by their names.
 
-ghost use Rattle.std.specs.Prelude.{◌≡◌, IfOk, None, option_and_then, slice_get};
+ghost use Rattle.std.specs.Prelude.{◌≡◌, ◌++◌, ◌∷◌, [], IfOk, List, OnOk, filter};
 ghost use Rattle.cm_types_arena.specs.declared.types.Types.{Types};
-ghost use Rattle.cm_match_model.specs.Fitting.{fits};
+ghost use Rattle.cm_match_model.specs.Fitting.{NamedExport, candidates, named_export, only};
 ghost use Rattle.cm_match_model.specs.Ranges.{exports_named};
 ghost use Rattle.cm_match_serving.specs.ExportTables.{HasExports};
 ghost use Rattle.cm_wit_conforms.specs.Places.{extern_names, place_in};
-ghost use Rattle.cm_hux_diff.specs.Facing.{face_of, found, greater_of, greatest_face};
-ghost use Rattle.cm_hux_diff.specs.Facing.{greatest_from, host_face, is_greater};
+ghost use Rattle.cm_hux_diff.specs.Facing.{best_face, face_of, found, greatest, host_face, is_one};
+ghost use Rattle.cm_hux_diff.specs.Facing.{one_or_several};
 
 use crate::facing::Face;
 use crate::names::names_of;
@@ -22,7 +22,10 @@ use std::alloc::{AllocError, Global};
 pub(crate) struct Offers {
     pub(crate) names: Vec<ExternName>,
     table: Exports,
+    /// Of compatible versions the greatest alone.
+    kept: Exports,
     ghost told: { ∥ HasExports table (exports_named 0 names.items) ∥₁ },
+    ghost keeps: { ∥ HasExports kept (greatest names.items) ∥₁ },
 }
 
 fn table_of(alloc: Global, names: &[ExternName]) -> Result<Exports, AllocError>
@@ -35,17 +38,40 @@ fn table_of(alloc: Global, names: &[ExternName]) -> Result<Exports, AllocError>
     Ok(table)
 }
 
-/// Whether what has a name fits what is wanted by another. Refused only where there is no memory.
-fn fits(alloc: Global, wanted: &ExternName, name: &ExternName) -> Result<bool, AllocError>
-    ensures { IfOk result (λ b. b ≡ fits wanted.now name.now) }
+/// Adds a name at a place, where nothing else of a table that has it fits it.
+fn add_greatest(
+    alloc: Global,
+    table: &Exports,
+    kept: &mut Exports,
+    place: usize,
+    name: &ExternName,
+) -> Result<(), AllocError>
+    ensures { OnOk result ((all before : List NamedExport) → HasExports table.now all
+        → HasExports kept.old before
+        → HasExports kept.new (before ++ filter
+        (λ e. is_one (only (candidates all e.name))) (named_export 0 place name.now ∷ []))) }
 {
-    let mut table = Exports::new(alloc);
-    table.add(name, 0, 0)?;
-    match table.candidate(alloc, wanted)? {
-        Candidate::None => Ok(false),
-        Candidate::One { .. } => Ok(true),
-        Candidate::Several => Ok(true),
+    match table.candidate(alloc, name)? {
+        Candidate::One { .. } => kept.add(name, 0, place),
+        Candidate::None => Ok(()),
+        Candidate::Several => Ok(()),
     }
+}
+
+/// The greatest of compatible versions, by a table of all.
+fn greatest_of(
+    alloc: Global,
+    table: &Exports,
+    names: &[ExternName],
+) -> Result<Exports, AllocError>
+    requires { HasExports table.now (exports_named 0 names.now) }
+    ensures { IfOk result (λ kept. HasExports kept (greatest names.now)) }
+{
+    let mut kept = Exports::new(alloc);
+    for (place, name) in names.iter().enumerate() {
+        add_greatest(alloc, table, &mut kept, place, name)?;
+    }
+    Ok(kept)
 }
 
 /// What candidates are as a face.
@@ -66,7 +92,12 @@ impl Offers {
     {
         let names = names_of(alloc, externs)?;
         let table = table_of(alloc, &names)?;
-        Ok(Offers { names, table })
+        let kept = greatest_of(alloc, &table, &names)?;
+        Ok(Offers {
+            names,
+            table,
+            kept,
+        })
     }
 
     /// What fits a name: nothing, one alone, or several.
@@ -76,71 +107,34 @@ impl Offers {
         self.table.candidate(alloc, wanted)
     }
 
-    /// Whether a name is greater than the greatest so far.
-    fn is_greater(
-        &self,
-        alloc: Global,
-        best: Option<usize>,
-        name: &ExternName,
-    ) -> Result<bool, AllocError>
-        ensures { IfOk result (λ b. b
-            ≡ is_greater (option_and_then (slice_get self.now.names.items) best) name.now) }
+    /// What of the greatest fits a name.
+    fn found_greatest(&self, alloc: Global, wanted: &ExternName) -> Result<Candidate, AllocError>
+        ensures { IfOk result (λ c. c
+            ≡ only (candidates (greatest self.now.names.items) wanted.now)) }
     {
-        let Some(best) = best else {
-            return Ok(true);
-        };
-        match self.names.get(best) {
-            Some(other) => Ok(!fits(alloc, name, other)?),
-            None => Ok(true),
-        }
+        self.kept.candidate(alloc, wanted)
     }
 
-    /// The greater of the greatest so far and a name at a place, if that fits what is wanted.
-    fn greater_of(
-        &self,
-        alloc: Global,
-        wanted: &ExternName,
-        best: Option<usize>,
-        place: usize,
-        name: &ExternName,
-    ) -> Result<Option<usize>, AllocError>
-        ensures { IfOk result (λ next. next
-            ≡ greater_of self.now.names.items wanted.now best place name.now) }
-    {
-        if !fits(alloc, wanted, name)? {
-            return Ok(best);
-        }
-        if self.is_greater(alloc, best, name)? {
-            Ok(Some(place))
-        } else {
-            Ok(best)
-        }
-    }
-
-    /// The place of the greatest that fits a name. It costs time linear in all of them.
-    #[tactic(auto, using(crate::proofs::Faces::greatest_laws))]
-    fn greatest(&self, alloc: Global, wanted: &ExternName) -> Result<Option<usize>, AllocError>
-        ensures { IfOk result (λ best. best
-            ≡ greatest_from self.now.names.items wanted.now None 0 self.now.names.items) }
-    {
-        let mut best = None;
-        for (place, name) in self.names.iter().enumerate() {
-            best = self.greater_of(alloc, wanted, best, place, name)?;
-        }
-        Ok(best)
-    }
-
-    /// What faces a name that no other has.
+    /// The greatest of several that fit a name.
     fn greatest_face(&self, alloc: Global, wanted: &ExternName) -> Result<Face, AllocError>
-        ensures { IfOk result (λ f. f ≡ greatest_face self.now.names.items wanted.now
-            (found self.now.names.items wanted.now)) }
+        ensures { IfOk result (λ f. f ≡ one_or_several
+            (only (candidates (greatest self.now.names.items) wanted.now))) }
+    {
+        match self.found_greatest(alloc, wanted)? {
+            Candidate::One { export, .. } => Ok(Face::One(export)),
+            Candidate::None => Ok(Face::Several),
+            Candidate::Several => Ok(Face::Several),
+        }
+    }
+
+    /// What fits a name, or of several the greatest.
+    pub(crate) fn best_face(&self, alloc: Global, wanted: &ExternName) -> Result<Face, AllocError>
+        ensures { IfOk result (λ f. f ≡ best_face self.now.names.items wanted.now) }
     {
         match self.found(alloc, wanted)? {
-            Candidate::Several => match self.greatest(alloc, wanted)? {
-                Some(place) => Ok(Face::One(place)),
-                None => Ok(Face::Nothing),
-            },
-            one => Ok(face_of(one)),
+            Candidate::None => Ok(Face::Nothing),
+            Candidate::One { export, .. } => Ok(Face::One(export)),
+            Candidate::Several => self.greatest_face(alloc, wanted),
         }
     }
 
@@ -156,29 +150,7 @@ impl Offers {
     {
         match place {
             Some(place) => Ok(Face::One(place)),
-            None => self.greatest_face(alloc, wanted),
+            None => self.best_face(alloc, wanted),
         }
-    }
-
-    /// Marks those that fit a name. It costs time linear in all of them.
-    pub(crate) fn mark_fitting(
-        &self,
-        alloc: Global,
-        wanted: &ExternName,
-        marks: &mut [bool],
-    ) -> Result<(), AllocError> {
-        for (place, name) in self.names.iter().enumerate() {
-            if fits(alloc, wanted, name)? {
-                mark(marks, place);
-            }
-        }
-        Ok(())
-    }
-}
-
-/// Marks a place.
-pub(crate) fn mark(marks: &mut [bool], place: usize) {
-    if let Some(mark) = marks.get_mut(place) {
-        *mark = true;
     }
 }

@@ -32,8 +32,8 @@ pub struct Broken {
     /// The places of the imports of the old one that the new one exports and the old one does not:
     /// who imports them from a host of both finds two.
     pub hosted: Vec<usize>,
-    /// Which exports of the new one fit the name of one of the old one's, or the reverse: others
-    /// may clash with components that export them.
+    /// Which exports of the new one fit the name of one of the old one's, of several the greatest,
+    /// or the reverse: others may clash with components that export them.
     pub met: Vec<bool>,
 }
 
@@ -145,8 +145,7 @@ fn users_broken(
 ///
 /// `AllocError` comes where there is no memory. It costs time linear in the items of both, with a
 /// search for each name and resource, and in the types of both, each once for each way in which
-/// imports and exports move its resources; an import of the new one that several of the old one's
-/// fit costs time linear in all of these.
+/// imports and exports move its resources.
 pub fn replaces(alloc: Global, old: &Signature, new: &Signature) -> Result<Broken, AllocError>
     ensures { IfOk result (IsBroken (signature_of old.now) (signature_of new.now)) }
 {

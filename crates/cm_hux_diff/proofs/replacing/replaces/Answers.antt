@@ -1,6 +1,6 @@
 use Rattle.std.proofs.Common.{◌∙◌}
 use Rattle.cm_types_arena.specs.Signatures.{signature_of}
-use Rattle.cm_hux_diff.proofs.Standings.{faces_are, hosted_are}
+use Rattle.cm_hux_diff.proofs.Standings.{faces_are, hosted_are, met_are}
 use Rattle.cm_hux_diff.proofs.replacing.replaces.Goals as goal
 
 pub returns : goal.returns
@@ -13,6 +13,7 @@ returns c =
       hosts = c.in_ok-hosts.ensures;
       users = c.in_ok-users.ensures;
       hosted = c.in_ok-hosted.ensures ∙ hosted_are old new c.in_ok-links.links c.in_ok-links.ensures;
+      met = c.in_ok-met.ensures ∙ met_are old new c.in_ok-links.links c.in_ok-links.ensures;
     }
 
 pub users_broken-requires-clause-faces : goal.users_broken-requires-clause-faces
