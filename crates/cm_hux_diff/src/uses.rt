@@ -205,7 +205,10 @@ impl Causes {
 
 /// The items that are changed, each behind those that it uses: these are shorter, or alike and
 /// before it.
-fn in_order(alloc: Global, all: &[Parts<'_>]) -> Result<BTreeMap<(usize, usize), usize>, AllocError> {
+fn in_order(
+    alloc: Global,
+    all: &[Parts<'_>],
+) -> Result<BTreeMap<(usize, usize), usize>, AllocError> {
     let mut order = BTreeMap::new(alloc);
     for (number, parts) in all.iter().enumerate() {
         order.insert((parts.was.len(), parts.place), number)?;
