@@ -1,9 +1,8 @@
 //! The core functions of components by name.
 
-use cm_hux_files::Checked;
+use cm_hux_files::{Checked, CoreFuncEntry, MadeFunc};
 use cm_hux_script::{CoreNames, NameFault};
 use cm_types_arena::{Extern, ExternDesc};
-use cm_validate_spaces::{CoreFuncEntry, MadeFunc};
 use std::alloc::{AllocError, Global};
 use std::collections::BTreeMap;
 
