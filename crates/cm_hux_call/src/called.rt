@@ -3,9 +3,10 @@
 use crate::call_text::CallText;
 use crate::passing::{PassFault, Passed};
 use cm_host_values::ValuesFault;
-use cm_hux_drive::files::{Checked, CoreFuncEntry, Fault, Functions, MadeFunc};
+use cm_hux_drive::files::{Checked, Fault, Functions};
 use cm_types::{Func, Value};
 use cm_types_arena::Types;
+use cm_validate_spaces::{CoreFuncEntry, MadeFunc};
 use std::alloc::Global;
 
 /// A function that a component imports and lowers.

@@ -1,7 +1,8 @@
 //! The core functions of components by name.
 
-use cm_hux_files::{Checked, CoreFuncEntry, Functions};
+use cm_hux_files::{Checked, Functions};
 use cm_hux_script::{CoreNames, NameFault};
+use cm_validate_spaces::CoreFuncEntry;
 use std::alloc::{AllocError, Global};
 use std::collections::BTreeMap;
 

@@ -17,7 +17,6 @@ mod type_imports;
 
 pub use cm_bundle::Bundle;
 pub use cm_hux_json::{Object, ToValue, Value, event_object, line_of, signature_rows, type_text};
-pub use cm_match::{CoreFuncEntry, MadeFunc};
 pub use cm_stubs::{Component, StubFault, caller, caller_for, provider_for};
 pub use cm_tool_commands::{
     Asked, Checked, Disk, Fault as ToolFault, FileFault, Files, LIMIT, Linked, Outcome, Unfit,
