@@ -1,7 +1,7 @@
 -- What a contract sees of a session.
 use Rattle.std.specs.Prelude.{List}
 use Rattle.cm_validate_model.specs.Spaces.{Spaces}
-use Rattle.cm_match.specs.Linked.{set_in}
+use Rattle.cm_machine.specs.cm_match.Linked.{set_in}
 use Rattle.cm_machine.specs.cm_machine_set.Running.{RunningSet}
 use Rattle.cm_live.specs.declared.session.Session.{Session}
 

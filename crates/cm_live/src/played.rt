@@ -11,7 +11,7 @@ ghost use Rattle.cm_machine.specs.cm_machine_model.Stack.{actor, top_of};
 ghost use Rattle.cm_machine.specs.cm_machine_model.State.{are_page_counts};
 ghost use Rattle.cm_machine.specs.cm_machine_set.Running.{GoesOnFrom, IsNew, SetSteps, begun};
 ghost use Rattle.cm_machine.specs.cm_machine_laws.MemoryChanges.{SameMemories};
-ghost use Rattle.cm_match.specs.Linked.{set_in};
+ghost use Rattle.cm_machine.specs.cm_match.Linked.{set_in};
 ghost use Rattle.cm_live.specs.Mirrors.{Tells};
 ghost use Rattle.cm_live.specs.Played.{IsPlayed};
 ghost use Rattle.cm_live.specs.Statements.{IsNoStep};

@@ -8,7 +8,7 @@ ghost use Rattle.cm_machine.specs.cm_machine_model.History.{begins, moves};
 ghost use Rattle.cm_machine.specs.cm_machine_model.Stack.{actor, top_of};
 ghost use Rattle.cm_machine.specs.cm_machine_set.Running.{GoesOnFrom, IsNew, RunningSet};
 ghost use Rattle.cm_machine.specs.cm_machine_laws.MemoryChanges.{SameMemories};
-ghost use Rattle.cm_match.specs.Linked.{set_in};
+ghost use Rattle.cm_machine.specs.cm_match.Linked.{set_in};
 ghost use Rattle.cm_live.specs.Mirrors.{KeepsMirrors, TellsNothing, TellsWhose};
 ghost use Rattle.cm_live.specs.Sessions.{linked_of, set_of};
 ghost use Rattle.cm_live.specs.Statements.{Does, IsNoStep, IsOfNoMove, IsOfNoRoot, IsOfNoSet};
