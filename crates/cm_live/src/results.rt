@@ -40,10 +40,7 @@ fn wanted(links: &Links, instance: u32, func: u32, args: &[CoreValue]) -> Option
     match links.get(instance, func) {
         Some(CoreFunc::Lowered(link)) => place_of(link, args),
         Some(
-            CoreFunc::Guest
-            | CoreFunc::Makes(_)
-            | CoreFunc::Drops { .. }
-            | CoreFunc::Represents(_),
+            CoreFunc::Guest | CoreFunc::Makes(_) | CoreFunc::Drops { .. } | CoreFunc::Represents(_),
         )
         | None => None,
     }
