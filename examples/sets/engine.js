@@ -57,7 +57,7 @@ const lines = {
 function plan(index, bytes, words) {
     guests[index] ??= new Guest(index, new Uint8Array(bytes));
     const [kind, ...rest] = words.split(' ');
-    lines[kind](guests[index], ...rest);
+    lines[kind]?.(guests[index], ...rest); // types are of no use here
 }
 
 const pages = (index) => guests[index].pages;

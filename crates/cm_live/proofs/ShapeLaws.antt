@@ -3,6 +3,7 @@ use Rattle.std.proofs.Common.{◌≡◌, ◌⊎◌, inl, inr, ℕ, Bool, true, f
 use Rattle.std.proofs.Common.{Option, Some, None, refl, sym, ap, subst, ◌∙◌, arith}
 use Rattle.std.specs.Prelude.{⊤, if◌then◌else◌, map, nat_lt, slice_get}
 use Rattle.std.proofs.lemmas.Bool.{true≢false}
+use Rattle.std.proofs.lemmas.Bool.Decides.{leb_tells}
 use Rattle.cm_types.specs.CoreValues.{kind_of}
 use Rattle.cm_types.specs.declared.core_value.CoreKind.{CoreKind}
 use Rattle.cm_types.specs.declared.core_value.CoreKind.TheVariants as kind
@@ -168,7 +169,10 @@ shaped plan s ds i move.Unreachable e l r = tt
 
 pub no_values : (vs : List CoreValue) → nat_lt 0 (length vs) ≡ false → vs ≡ []
 no_values [] h = refl
-no_values (v ∷ vs) h = absurd (true≢false h)
+no_values (v ∷ vs) h = elim (leb_tells 1 (length (v ∷ vs))) [
+  | inl w ↦ absurd (true≢false (sym w.0 ∙ h))
+  | inr w ↦ absurd (omega (arith, w.1))
+]
 
 -- where a number is wanted, none is not enough
 few : (vs : List CoreValue) → vs ≡ [] → HaveKinds one_number vs → ⊥

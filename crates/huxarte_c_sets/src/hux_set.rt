@@ -45,7 +45,9 @@ impl HuxSet {
         ensures { result.value ≡ self.kept }
     {
         let HuxSet { at } = self;
-        Kept { at: at as *mut KeptSet }
+        Kept {
+            at: at as *mut KeptSet,
+        }
     }
 
     /// Takes the set out, where there is one; none is left.

@@ -42,11 +42,7 @@ impl Model for KeptSet {
 impl KeptSet {
     /// A set of what is linked, whose instances have so many pages of memory. Misuse is that of
     /// `Set::new`.
-    pub(crate) fn new(
-        alloc: Global,
-        linked: &Linked<'_>,
-        pages: &[u32],
-    ) -> Result<KeptSet, Misuse>
+    pub(crate) fn new(alloc: Global, linked: &Linked<'_>, pages: &[u32]) -> Result<KeptSet, Misuse>
         ensures new { IfOk result (IsNewPlayed (set_in linked.now) pages.now) }
         ensures bad_pages { IfErr result (λ m. (m ≡ Misuse.BadPages)
             ↔ (are_page_counts (length (set_in linked.now)) pages.now ≡ false)) }

@@ -19,11 +19,7 @@ use huxarte_c_components::{LinkRefusal, files_of};
 use std::alloc::Global;
 
 /// A set of what is linked.
-fn make_set(
-    alloc: Global,
-    linked: &Linked<'_>,
-    pages: &[u32],
-) -> Result<Box<KeptSet>, SetRefusal>
+fn make_set(alloc: Global, linked: &Linked<'_>, pages: &[u32]) -> Result<Box<KeptSet>, SetRefusal>
     ensures made { IfOk result (λ b. IsNewPlayed (set_in linked.now) pages.now b.value) }
     ensures refused { IfErr result (IsUnmadeBy (set_in linked.now) pages.now) }
 {
