@@ -66,10 +66,7 @@ fn as_named(text: &str) -> &str {
 }
 
 /// The parts of all items that are changed, in order.
-fn all_parts<'t>(
-    alloc: Global,
-    found: &'t [Difference<'_>],
-) -> Result<Vec<Parts<'t>>, AllocError> {
+fn all_parts<'t>(alloc: Global, found: &'t [Difference<'_>]) -> Result<Vec<Parts<'t>>, AllocError> {
     let mut numbers = Numbers::new(alloc);
     let mut all = Vec::new(alloc);
     for (place, difference) in found.iter().enumerate() {
