@@ -151,7 +151,7 @@ impl Parts<'_> {
     ) -> Result<BTreeSet<usize>, AllocError> {
         let mut uses = BTreeSet::new(alloc);
         let mut walk = Walk { was: 0, is: 0 };
-        for _ in 0..=self.was.len() {
+        for _ in 0..self.was.len().saturating_add(1) {
             match self.step(walk, changed) {
                 Step::End => return Ok(uses),
                 Step::Differs => break,
@@ -221,7 +221,8 @@ fn causes_of(alloc: Global, found: &[Difference<'_>]) -> Result<Causes, AllocErr
         alloc,
         known: BTreeMap::new(alloc),
     };
-    for number in in_order(alloc, &all)?.values() {
+    let order = in_order(alloc, &all)?;
+    for (_, number) in &order {
         let Some(parts) = all.get(*number) else {
             continue;
         };
