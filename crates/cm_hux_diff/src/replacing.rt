@@ -3,8 +3,7 @@
 ghost use Rattle.std.specs.Prelude.{◌≡◌, IfOk, map};
 ghost use Rattle.cm_types_arena.specs.Signatures.{exports_in, imports_in, signature_of};
 ghost use Rattle.cm_hux_diff.specs.Breaking.{AreBreaks, IsBroken, breaks, marked};
-ghost use Rattle.cm_hux_diff.specs.Breaking.{offered_to_users};
-ghost use Rattle.cm_hux_diff.specs.Breaking.{wanted_by_users, wanted_of_hosts};
+ghost use Rattle.cm_hux_diff.specs.Breaking.{offered_to_users, wanted_by_users, wanted_of_hosts};
 ghost use Rattle.cm_hux_diff.specs.Held.{host_entries, used_face, user_entries};
 ghost use Rattle.cm_hux_diff.specs.Facing.{names};
 ghost use Rattle.cm_hux_diff.specs.Views.{IsAtHost};
