@@ -202,23 +202,22 @@ impl Telling {
     ) -> Result<bool, Fault<'a>> {
         let broken = replaces(self.alloc, &both.old, &both.new)?;
         let found = differences(self.alloc, old, new, &broken)?;
-        Ok(self.tell_differences(&found, out)?)
+        self.tell_differences(&found, out)?;
+        Ok(broken.breaks())
     }
 
-    /// Prints each difference, or only what is broken, and answers whether something is.
+    /// Prints each difference, or only what is broken.
     fn tell_differences<O: Write>(
         self,
         found: &[Difference<'_>],
         out: &mut O,
-    ) -> Result<bool, Fault<'static>> {
-        let mut is_broken = false;
+    ) -> Result<(), Fault<'static>> {
         for difference in found {
-            is_broken = is_broken || difference.effect.breaks();
             if !self.habits.quiet || difference.effect.breaks() {
                 self.tell_difference(difference, out)?;
             }
         }
-        Ok(is_broken)
+        Ok(())
     }
 
     fn tell_difference<O: Write>(

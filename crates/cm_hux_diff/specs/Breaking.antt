@@ -2,7 +2,7 @@
 -- who import what the old one exports, and may import from its host too; and for hosts, which
 -- export what the old one imports. Resources of one signature are told by their numbers.
 use Rattle.std.specs.Prelude.{◌≡◌, ℕ, ◌==◌, List, [], ◌∷◌, map, Option, Some, None, unwrap_or}
-use Rattle.std.specs.Prelude.{if◌then◌else◌, ◌⊎◌}
+use Rattle.std.specs.Prelude.{if◌then◌else◌, ◌⊎◌, Bool, ◌||◌, not, length}
 use Rattle.std.specs.Option.{option_or}
 use Rattle.cm_types.specs.Signatures.{NamedExtern, SignatureTy}
 use Rattle.cm_types.specs.declared.resource.ResourceId.{ResourceId}
@@ -95,3 +95,9 @@ pub record IsBroken (old new : SignatureTy) (b : Broken) : Type 0 where
       ≡ hosted_from (names old.exports) (names new.exports) 0 (names old.imports)
   pub met : b.met.items
       ≡ met_from (names old.exports) (names new.exports) 0 (names new.exports)
+
+-- whether something breaks for hosts or for users
+abbrev pub breaks : Broken → Bool
+breaks b =
+    not (length b.hosts.items == 0) || not (length b.users.items == 0)
+    || not (length b.hosted.items == 0)

@@ -73,12 +73,12 @@ fn add_faced(places: &mut BTreeSet<usize>, face: Face) -> Result<(), AllocError>
     match face {
         Face::One(place) => {
             places.insert(place)?;
+            Ok(())
         }
-        Face::LeftOut => {}
-        Face::Nothing => {}
-        Face::Several => {}
+        Face::LeftOut => Ok(()),
+        Face::Nothing => Ok(()),
+        Face::Several => Ok(()),
     }
-    Ok(())
 }
 
 /// What users look for the exports of the old one in.

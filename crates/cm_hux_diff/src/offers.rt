@@ -59,11 +59,7 @@ fn add_greatest(
 }
 
 /// The greatest of compatible versions, by a table of all.
-fn greatest_of(
-    alloc: Global,
-    table: &Exports,
-    names: &[ExternName],
-) -> Result<Exports, AllocError>
+fn greatest_of(alloc: Global, table: &Exports, names: &[ExternName]) -> Result<Exports, AllocError>
     requires { HasExports table.now (exports_named 0 names.now) }
     ensures { IfOk result (λ kept. HasExports kept (greatest names.now)) }
 {
@@ -93,11 +89,7 @@ impl Offers {
         let names = names_of(alloc, externs)?;
         let table = table_of(alloc, &names)?;
         let kept = greatest_of(alloc, &table, &names)?;
-        Ok(Offers {
-            names,
-            table,
-            kept,
-        })
+        Ok(Offers { names, table, kept })
     }
 
     /// What fits a name: nothing, one alone, or several.

@@ -136,12 +136,12 @@ fn read<'t>(alloc: Global, text: &'t str) -> Result<Vec<Part<'t>>, AllocError> {
         parts: Vec::new(alloc),
         open: Vec::new(alloc),
     };
-    for chunk in text.split_inclusive(is_mark) {
+    for chunk in text.split_inclusive(|c: char| is_mark(c)) {
         if chunk == "->" {
             reading.add(chunk, Sort::Word)?;
             continue;
         }
-        let word = chunk.trim_end_matches(is_mark);
+        let word = chunk.trim_end_matches(|c: char| is_mark(c));
         let mark = chunk.strip_prefix(word).unwrap_or("");
         reading.add_word(word, mark)?;
         reading.add_mark(word, mark)?;
@@ -203,8 +203,10 @@ pub(crate) fn parts_of<'t>(
         outer: Vec::new(alloc),
         inner: None,
     };
-    for (place, part) in parts.iter_mut().enumerate().rev() {
-        numbering.add(numbers, place, part)?;
+    for place in (0..parts.len()).rev() {
+        if let Some(part) = parts.get_mut(place) {
+            numbering.add(numbers, place, part)?;
+        }
     }
     Ok(parts)
 }

@@ -2,8 +2,8 @@
 
 ghost use Rattle.std.specs.Prelude.{◌≡◌, IfOk, map};
 ghost use Rattle.cm_types_arena.specs.Signatures.{exports_in, imports_in, signature_of};
-ghost use Rattle.cm_hux_diff.specs.Breaking.{AreBreaks, IsBroken, marked, offered_to_users};
-ghost use Rattle.cm_hux_diff.specs.Breaking.{wanted_by_users, wanted_of_hosts};
+ghost use Rattle.cm_hux_diff.specs.Breaking.{AreBreaks, IsBroken, breaks, marked};
+ghost use Rattle.cm_hux_diff.specs.Breaking.{offered_to_users, wanted_by_users, wanted_of_hosts};
 ghost use Rattle.cm_hux_diff.specs.Held.{host_entries, used_face, user_entries};
 ghost use Rattle.cm_hux_diff.specs.Facing.{names};
 ghost use Rattle.cm_hux_diff.specs.Views.{IsAtHost};
@@ -35,6 +35,15 @@ pub struct Broken {
     /// Which exports of the new one fit the name of one of the old one's, of several the greatest,
     /// or the reverse: others may clash with components that export them.
     pub met: Vec<bool>,
+}
+
+impl Broken {
+    /// Whether something breaks for users or for hosts.
+    pub fn breaks(&self) -> bool
+        ensures { result ≡ breaks self.now }
+    {
+        !self.hosts.is_empty() || !self.users.is_empty() || !self.hosted.is_empty()
+    }
 }
 
 /// What a signature imports, held against the imports of the old one, which a host serves.

@@ -66,10 +66,7 @@ fn as_named(text: &str) -> &str {
 }
 
 /// The parts of all items that are changed, in order.
-fn all_parts<'t>(
-    alloc: Global,
-    found: &'t [Difference<'_>],
-) -> Result<Vec<Parts<'t>>, AllocError> {
+fn all_parts<'t>(alloc: Global, found: &'t [Difference<'_>]) -> Result<Vec<Parts<'t>>, AllocError> {
     let mut numbers = Numbers::new(alloc);
     let mut all = Vec::new(alloc);
     for (place, difference) in found.iter().enumerate() {
@@ -154,7 +151,7 @@ impl Parts<'_> {
     ) -> Result<BTreeSet<usize>, AllocError> {
         let mut uses = BTreeSet::new(alloc);
         let mut walk = Walk { was: 0, is: 0 };
-        for _ in 0..=self.was.len() {
+        for _ in 0..self.was.len().saturating_add(1) {
             match self.step(walk, changed) {
                 Step::End => return Ok(uses),
                 Step::Differs => break,
@@ -224,7 +221,8 @@ fn causes_of(alloc: Global, found: &[Difference<'_>]) -> Result<Causes, AllocErr
         alloc,
         known: BTreeMap::new(alloc),
     };
-    for number in in_order(alloc, &all)?.values() {
+    let order = in_order(alloc, &all)?;
+    for (_, number) in &order {
         let Some(parts) = all.get(*number) else {
             continue;
         };
