@@ -31,7 +31,7 @@ pub struct Session<'c, 'a> {
 
 /// Why a move is not made.
 fn fault_of(misuse: Misuse) -> LiveFault
-    ensures { (old : RunningSet) (m : Made) → IsNoStep old m misuse → IsOfNoMove old result }
+    ensures { (s : RunningSet) (m : Made) → IsNoStep s m misuse → IsOfNoMove s result }
 {
     match misuse {
         Misuse::Memory => LiveFault::Memory,
