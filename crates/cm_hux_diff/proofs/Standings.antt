@@ -9,19 +9,23 @@ use Rattle.cm_types_arena.specs.Replaced.{Standing}
 use Rattle.cm_hux_diff.specs.Breaking.{AreBreaks, bound, marked}
 use Rattle.cm_hux_diff.specs.Facing.{hosted_from, met_from, names, user_face}
 use Rattle.cm_hux_diff.specs.Held.{Entry, used_face}
-use Rattle.cm_hux_diff.specs.Views.{LinksOf, bound_in, faces_in, standing_of}
-use Rattle.cm_hux_diff.specs.declared.bound.Side.{Side}
+use Rattle.cm_hux_diff.specs.Views.{LinksOf, bound_in, faces_in}
+use Rattle.cm_hux_diff.specs.declared.bound.Bound.{Bound}
 use Rattle.cm_hux_diff.specs.declared.breaking.Break.{Break}
 use Rattle.cm_hux_diff.specs.declared.facing.Face.{Face}
 use Rattle.cm_hux_diff.specs.declared.links.Links.{Links}
 
+-- what stands for resources by a table, and else each with a mark
+abbrev pub by_table : Bound → ℕ → Standing
+by_table table mark r = unwrap_or (bound_in table r.number) (marked mark r)
+
 -- what is bound to resources stands for them
-pub standing_as : (side : Side) (f : ℕ → Option ResourceId) → ((n : ℕ) → bound_in side.bound.now n ≡ f n) → standing_of side ≡ (λ r. unwrap_or (f r.number) (marked side.mark r))
-standing_as side f h = fun_ext (λ (r : ResourceId). ap (λ (o : Option ResourceId). unwrap_or o (marked side.mark r)) (h r.number))
+pub standing_as : (table : Bound) (mark : ℕ) (f : ℕ → Option ResourceId) → ((n : ℕ) → bound_in table n ≡ f n) → by_table table mark ≡ (λ r. unwrap_or (f r.number) (marked mark r))
+standing_as table mark f h = fun_ext (λ (r : ResourceId). ap (λ (o : Option ResourceId). unwrap_or o (marked mark r)) (h r.number))
 
 -- where nothing is bound each resource has its mark
-pub standing_marked : (side : Side) → ((n : ℕ) → bound_in side.bound.now n ≡ None) → standing_of side ≡ marked side.mark
-standing_marked side h = fun_ext (λ (r : ResourceId). ap (λ (o : Option ResourceId). unwrap_or o (marked side.mark r)) (h r.number))
+pub standing_marked : (table : Bound) (mark : ℕ) → ((n : ℕ) → bound_in table n ≡ None) → by_table table mark ≡ marked mark
+standing_marked table mark h = fun_ext (λ (r : ResourceId). ap (λ (o : Option ResourceId). unwrap_or o (marked mark r)) (h r.number))
 
 pub breaks_as : (w x o p : Standing) (es fs : List Entry) (bs : List Break) → w ≡ x → o ≡ p → es ≡ fs → AreBreaks w o es bs → AreBreaks x p fs bs
 breaks_as w x o p es fs bs a b e h =

@@ -52,11 +52,13 @@ impl Walk {
             ≡ map (entry_view w o) self.old.entries.items
             ++ option_to_list (slice_get (instance_entries w o two.entry) number)) }
     {
-        let Some(entry) = entry_at(two, number, found) else {
-            return Ok(());
-        };
-        self.entries.push(entry)?;
-        Ok(())
+        match entry_at(two, number, found) {
+            Some(entry) => {
+                self.entries.push(entry)?;
+                Ok(())
+            }
+            None => Ok(()),
+        }
     }
 
     /// Adds the items of an instance, each against that of its name, which stands at the place that

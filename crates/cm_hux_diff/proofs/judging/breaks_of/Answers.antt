@@ -5,6 +5,9 @@ use Rattle.cm_hux_diff.specs.Views.{entry_view, standing_of}
 use Rattle.cm_hux_diff.proofs.Places.{mapped_next}
 use Rattle.cm_hux_diff.proofs.judging.breaks_of.Goals as goal
 
+pub loop-entry-init : goal.loop-entry-init
+loop-entry-init c = (c.new-tables.ensures c.args.wanted.now c.args.offered.now, c.new-breaks.ensures.items)
+
 pub loop-entry-preserved : goal.loop-entry-preserved
 loop-entry-preserved c =
     let w = c.args.wanted.now in

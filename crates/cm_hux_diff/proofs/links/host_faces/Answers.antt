@@ -10,10 +10,10 @@ faces_of-requires c =
     let o = c.args.old.now.types in
     let w = c.args.of.now.types in
     let texts = c.in_ok-offers.offers.names.items in
-    c.deref-places.ensures.value
+    c.deref-2.ensures.value
     ∙ (c.in_ok-places.ensures w o
     ∙ (ap (λ l. map (place_in l) (extern_names w c.imports-imports.result.now)) (sym (c.in_ok-offers.ensures o))
-    ∙ ap (map (place_in texts)) (sym (c.deref-wanted.ensures.value ∙ c.in_ok-wanted.ensures w))))
+    ∙ ap (map (place_in texts)) (sym (c.deref.ensures.value ∙ c.in_ok-wanted.ensures w))))
 
 pub returns : goal.returns
 returns c =
@@ -21,6 +21,6 @@ returns c =
     let w = c.args.of.now.types in
     let texts = c.in_ok-offers.offers.names.items in
     let served : texts ≡ names (imports_in c.args.old.now) = c.in_ok-offers.ensures o ∙ ap names c.imports-served.ensures.externs in
-    let wanted : c.deref-wanted.result.now ≡ names (imports_in c.args.of.now) = c.deref-wanted.ensures.value ∙ (c.in_ok-wanted.ensures w ∙ ap names c.imports-imports.ensures.externs) in
+    let wanted : c.deref.result.now ≡ names (imports_in c.args.of.now) = c.deref.ensures.value ∙ (c.in_ok-wanted.ensures w ∙ ap names c.imports-imports.ensures.externs) in
     if_ok_more c.faces_of.result _ _ c.faces_of.ensures (λ v h.
-    h ∙ (ap (λ (l : List (List ℕ)). map (host_face l) c.deref-wanted.result.now) served ∙ ap (map (host_face (names (imports_in c.args.old.now)))) wanted))
+    h ∙ (ap (λ (l : List (List ℕ)). map (host_face l) c.deref.result.now) served ∙ ap (map (host_face (names (imports_in c.args.old.now)))) wanted))

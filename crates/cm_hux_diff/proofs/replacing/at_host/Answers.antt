@@ -7,7 +7,7 @@ use Rattle.cm_hux_diff.specs.Facing.{host_face, names}
 use Rattle.cm_hux_diff.specs.Held.{Entry, entries_from, host_entries}
 use Rattle.cm_hux_diff.specs.Views.{entry_view}
 use Rattle.cm_hux_diff.specs.declared.facing.Face.{Face}
-use Rattle.cm_hux_diff.proofs.Standings.{noted_as, standing_marked}
+use Rattle.cm_hux_diff.proofs.Standings.{by_table, noted_as, standing_marked}
 use Rattle.cm_hux_diff.proofs.replacing.at_host.Goals as goal
 
 pub returns : goal.returns
@@ -19,11 +19,11 @@ returns c =
     let listed : externs_listed o c.imports-offered.result.now ≡ theirs = c.imports-offered.ensures.externs in
     let wanted : externs_listed w c.imports-wanted.result.now ≡ ours = c.imports-wanted.ensures.externs in
     let entries : map (entry_view w o) c.in_ok-entries.entries.items ≡ host_entries theirs ours =
-    c.in_ok-entries.ensures w o (host_face (names theirs)) (c.deref-faces.ensures.value ∙ (c.in_ok-faces.ensures ∙ ap (λ (l : List NamedExtern). map (host_face (names theirs)) (names l)) (sym wanted)))
+    c.in_ok-entries.ensures w o (host_face (names theirs)) (c.deref.ensures.value ∙ (c.in_ok-faces.ensures ∙ ap (λ (l : List NamedExtern). map (host_face (names theirs)) (names l)) (sym wanted)))
     ∙ (ap (λ (l : List NamedExtern). entries_from (host_face (names theirs)) l 0 (externs_listed w c.imports-wanted.result.now)) listed
     ∙ ap (entries_from (host_face (names theirs)) theirs 0) wanted) in
     record {
       faces = c.in_ok-faces.ensures;
       entries = entries;
-      bound = λ n. noted_as _ (marked 0) _ (host_entries theirs ours) n _ _ _ (standing_marked _ c.new-none.ensures) (ap (map (entry_view w o)) c.deref-entries.ensures.value ∙ entries) (c.new-bound.ensures n) (c.in_ok-note_all.ensures w o n);
+      bound = λ n. noted_as (by_table c.new-none.result 0) (marked 0) _ (host_entries theirs ours) n _ _ _ (standing_marked c.new-none.result 0 c.new-none.ensures) (ap (map (entry_view w o)) c.deref-2.ensures.value ∙ entries) (c.new-bound.ensures n) (c.in_ok-note_all.ensures w o n);
     }

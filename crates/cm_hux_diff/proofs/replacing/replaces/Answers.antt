@@ -20,4 +20,4 @@ pub users_broken-requires-clause-faces : goal.users_broken-requires-clause-faces
 users_broken-requires-clause-faces c =
     let old = signature_of c.args.old.now in
     let new = signature_of c.args.new.now in
-    c.deref-exports.ensures.value ∙ (c.in_ok-exports.ensures ∙ faces_are old new c.in_ok-links.links c.in_ok-links.ensures)
+    c.deref.ensures.value ∙ (c.in_ok-exports.ensures ∙ faces_are old new c.in_ok-links.links c.in_ok-links.ensures)
