@@ -31,7 +31,7 @@ use Rattle.cm_types.specs.declared.core_value.CoreKind.TheVariants as kind
 use Rattle.cm_live.specs.Calls.{calls_after, calls_after_call, calls_after_move}
 use Rattle.cm_live.specs.Calls.{calls_after_return, number_of, opens, opens_by, place_by}
 use Rattle.cm_live.specs.Calls.{place_by_move}
-use Rattle.cm_live.specs.Playing.{calls_of}
+use Rattle.cm_live.specs.Played.{calls_of}
 use Rattle.cm_live.specs.Told.{result_of}
 use Rattle.cm_live.specs.declared.goings_on.Call.{Call}
 use Rattle.cm_live.proofs.ShapeLaws.{AreShaped, IsShaped, number_at_end}
