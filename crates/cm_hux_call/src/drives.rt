@@ -3,8 +3,7 @@
 use cm_hux_drive::files::{Ending, Fault, LIMIT, Stop, ToolFault};
 use cm_hux_drive::lines::Drive;
 use cm_hux_drive::{
-    Checks, DriveEnd, HuxScript, Misuse, Moment, Printer, Script, SeeingGuest, Set, Watching,
-    guests_of,
+    Checks, DriveEnd, HuxScript, Misuse, Moment, Printer, Script, Seat, Set, Watching, seats_of,
 };
 use std::alloc::Global;
 use std::io::Write;
@@ -13,7 +12,7 @@ use std::io::Write;
 #[derive(Drop)]
 pub(crate) struct Drives {
     /// The guests, the caller last.
-    guests: Vec<Option<Box<dyn SeeingGuest>>>,
+    seats: Vec<Option<Seat>>,
     /// The roots, the caller last.
     begins: Vec<u32>,
     /// How many files there are.
@@ -28,7 +27,7 @@ impl Drives {
     pub(crate) fn new(
         alloc: Global,
         script: HuxScript,
-        guest: Box<dyn SeeingGuest>,
+        guest: Seat,
     ) -> Result<Drives, Fault<'static>> {
         let HuxScript { script, checks } = script;
         let Script {
@@ -39,11 +38,11 @@ impl Drives {
         let files = moves.len();
         are_of_files(&begins, files)?;
         let caller = u32::try_from(files).unwrap_or(u32::MAX);
-        let mut guests = guests_of(alloc, moves)?;
-        guests.push(Some(guest))?;
+        let mut seats = seats_of(alloc, moves)?;
+        seats.push(Some(guest))?;
         begins.push(caller)?;
         Ok(Drives {
-            guests,
+            seats,
             begins,
             files,
             caller,
@@ -66,14 +65,14 @@ impl Drives {
         err: &'w mut E,
     ) -> Result<DriveEnd, Stop> {
         let Drives {
-            mut guests,
+            mut seats,
             begins,
             files,
             caller: _,
             checks,
         } = self;
         let mut watching = Watching::new(names, checks, printer, err);
-        play_on(set, &mut guests, begins, files, &mut watching)
+        play_on(set, &mut seats, begins, files, &mut watching)
     }
 }
 
@@ -96,7 +95,7 @@ fn are_of_files(begins: &[u32], components: usize) -> Result<(), Fault<'static>>
 /// Plays drives of these roots, up to one that does not end.
 fn play_on<P: Printer, E: Write>(
     set: &mut Set,
-    guests: &mut Vec<Option<Box<dyn SeeingGuest>>>,
+    seats: &mut Vec<Option<Seat>>,
     begins: Vec<u32>,
     components: usize,
     watching: &mut Watching<'_, P, E>,
@@ -108,7 +107,7 @@ fn play_on<P: Printer, E: Write>(
             root,
             components,
         };
-        let end = watching.drive(set, guests, drive)?;
+        let end = watching.drive(set, seats, drive)?;
         if !end.is_ended {
             return finish(watching, end);
         }

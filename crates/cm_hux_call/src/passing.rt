@@ -1,7 +1,7 @@
 //! What is passed in a call of a caller that stands in for a host.
 
 use cm_host_values::{HostTypes, Lowered, ValuesFault, lift_values, lower_values};
-use cm_hux_drive::SeeingGuest;
+use cm_hux_drive::Seat;
 use cm_machine_guests::{Bump, MoveQueue, Room, WithAllocator};
 use cm_machine_model::{Flat, MAX_MEMORY_SIZE, Move, PAGE_SIZE};
 use cm_types::{CoreValue, Func, TypeTree, Value};
@@ -30,7 +30,7 @@ impl<T: Drop> From<AllocFailed<T>> for PassFault {
 /// A call that can be made: the guest of a caller that makes it, and what it is to get.
 #[derive(Drop)]
 pub(crate) struct Passed {
-    pub(crate) guest: Box<dyn SeeingGuest>,
+    pub(crate) guest: Seat,
     pub(crate) results: Results,
 }
 
@@ -95,14 +95,13 @@ fn guest_of(
     lowered: Lowered,
     place: Option<u32>,
     regions: Bump,
-) -> Result<Box<dyn SeeingGuest>, AllocError> {
+) -> Result<Seat, AllocError> {
     let Lowered { mut slots, bytes } = lowered;
     if let Some(at) = place {
         slots.push(CoreValue::I32(at))?;
     }
     let queue = queue_of(alloc, core_func, slots, bytes, regions.next)?;
-    let guest: Box<dyn SeeingGuest> = Box::new(alloc, WithAllocator::new(alloc, regions, queue))?;
-    Ok(guest)
+    Ok(Seat::Allocating(WithAllocator::new(alloc, regions, queue)))
 }
 
 /// A place for the results, where they are passed in memory.

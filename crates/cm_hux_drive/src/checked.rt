@@ -2,28 +2,15 @@
 
 use crate::checking::Checks;
 use crate::printer::Printer;
+use crate::seat::{Seat, seats_of};
 use crate::traps::tell_trap;
 use cm_hux_explain::{KeptMove, Trap};
 use cm_hux_files::{Ending, Fault, LIMIT, Stop, ToolFault, report};
 use cm_hux_script::{HuxScript, Moment, Script};
-use cm_machine::{Event, Move, MoveQueue, Player, SeeingGuest, Set, Watcher};
+use cm_machine::{Event, Move, Player, Set, Watcher};
 use cm_tool_lines::Drive;
-use std::alloc::{AllocError, Global};
-use std::collections::VecDeque;
+use std::alloc::Global;
 use std::io::Write;
-
-/// Guests that make these moves.
-pub fn guests_of(
-    alloc: Global,
-    moves: Vec<VecDeque<Move>>,
-) -> Result<Vec<Option<Box<dyn SeeingGuest>>>, AllocError> {
-    let mut guests: Vec<Option<Box<dyn SeeingGuest>>> = Vec::with_capacity(alloc, moves.len())?;
-    for moves in moves {
-        let guest: Box<dyn SeeingGuest> = Box::new(alloc, MoveQueue { moves })?;
-        guests.push(Some(guest))?;
-    }
-    Ok(guests)
-}
 
 /// A move that was made, and the instance that made it.
 #[derive(Drop)]
@@ -80,16 +67,16 @@ impl<'w, P: Printer, E: Write> Watching<'w, P, E> {
         self.checks.make(moment, set, event, self.printer, self.err)
     }
 
-    /// Plays a drive by these guests, makes its checks, and prints its fault or its trap, where it
+    /// Plays a drive by the guests on these seats, makes its checks, and prints its fault or its trap, where it
     /// has one. A trap that a check expects is fine.
     pub fn drive(
         &mut self,
         set: &mut Set,
-        guests: &mut Vec<Option<Box<dyn SeeingGuest>>>,
+        seats: &mut Vec<Option<Seat>>,
         drive: Drive,
     ) -> Result<DriveEnd, Stop> {
         self.made = None;
-        let played = Player::drive_watched(set, guests, drive.root, LIMIT, self);
+        let played = Player::drive_watched(set, seats, drive.root, LIMIT, self);
         if let Some(stop) = self.stop {
             return Err(stop);
         }
@@ -229,7 +216,7 @@ pub fn play_script<'w, P: Printer, E: Write>(
         begins,
     } = script;
     let components = moves.len();
-    let mut guests = guests_of(alloc, moves)?;
+    let mut seats = seats_of(alloc, moves)?;
     let checks = Checks::new(alloc, components, checks)?;
     let mut watching = Watching::new(names, checks, printer, err);
     watching.check(Moment::Start, set, None)?;
@@ -240,7 +227,7 @@ pub fn play_script<'w, P: Printer, E: Write>(
             root,
             components,
         };
-        worst = worst.max(watching.drive(set, &mut guests, drive)?.ending);
+        worst = worst.max(watching.drive(set, &mut seats, drive)?.ending);
     }
     watching.finish(worst)
 }
