@@ -67,8 +67,8 @@ impl<'w, P: Printer, E: Write> Watching<'w, P, E> {
         self.checks.make(moment, set, event, self.printer, self.err)
     }
 
-    /// Plays a drive by the guests on these seats, makes its checks, and prints its fault or its trap, where it
-    /// has one. A trap that a check expects is fine.
+    /// Plays a drive by the guests on these seats, makes its checks, and prints its fault or its
+    /// trap, where it has one. A trap that a check expects is fine.
     pub fn drive(
         &mut self,
         set: &mut Set,

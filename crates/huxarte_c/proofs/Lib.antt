@@ -1,4 +1,1 @@
 mod PlayLaws
-pub mod SetLaws
-pub mod Values
-pub mod WrittenLaws

@@ -1,0 +1,10 @@
+use Rattle.std.proofs.Common.{refl}
+use Rattle.cm_machine_parts.specs.Rows.{event_of}
+use Rattle.huxarte_c_sets.proofs.moving.make_move.Goals as goal
+
+pub returns-in-Ok : goal.returns-in-Ok
+returns-in-Ok c =
+    (event_of c.in-Ok.outcome c.step.new.values, (c.args.made.now, refl, c.in-Ok.ensures.step), c.of.ensures)
+
+pub returns-in-Err : goal.returns-in-Err
+returns-in-Err c = (c.in-Err.ensures.stays, refl, c.in-Err.ensures.refused)

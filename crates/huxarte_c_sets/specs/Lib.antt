@@ -1,0 +1,6 @@
+pub mod Cores
+pub mod Events
+pub mod Kept
+pub mod Looking
+pub mod Making
+pub mod Refused
