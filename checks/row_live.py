@@ -62,5 +62,7 @@ ENDS = {b"limit:": "Limit", b"standard input ends while": "Open", b"standard inp
 
 
 def end_of(ran):
-    said = [name for text, name in ENDS.items() if ran.err.startswith(b"error: " + text)]
+    lines = ran.err.splitlines()
+    said = [name for text, name in ENDS.items()
+            if any(line.startswith(b"error: " + text) for line in lines)]
     return {0: "Ended", 1: said and said[0], 3: "Trapped", 4: "Err"}[ran.status]
