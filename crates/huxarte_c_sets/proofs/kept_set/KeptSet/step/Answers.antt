@@ -6,5 +6,5 @@ returns-in-Ok-clause-written c = record {
   written = c.in-Ok.written;
   instance_is = refl;
   regions_are = refl;
-  tells = rw c.self.view_is c.in-Ok.ensures.told;
+  tells = rw (← c.self.view_is) c.in-Ok.ensures.told;
 }
