@@ -321,6 +321,12 @@ typedef struct HuxResource {
     uint32_t component;
 } HuxResource;
 
+/* How many bytes there are to be written of each text. */
+typedef struct HuxWanted {
+    size_t out;
+    size_t err;
+} HuxWanted;
+
 /* A part of a memory: its address, and how many bytes it has. */
 typedef struct HuxRegion {
     uint32_t at;
@@ -334,12 +340,6 @@ typedef struct HuxWritten {
     /* In the memory of which instance they lie, from 0. */
     uint32_t instance;
 } HuxWritten;
-
-/* How many bytes there are to be written of each text. */
-typedef struct HuxWanted {
-    size_t out;
-    size_t err;
-} HuxWanted;
 
 /* Tells what passing the parameters of a call asks the callee's allocator for, in order, before
  * anything is stored (docs/DEFINITIONS.md; the order and the sizes are this project's own).

@@ -3,21 +3,24 @@
 ghost use Rattle.std.specs.Prelude.{◌≡◌, None, length, map};
 ghost use Rattle.cm_machine_model.specs.Moves.{CallsWith, ReturnsWith, WritesAt};
 ghost use Rattle.cm_machine_model.specs.declared.moves.Move.TheVariants as moves;
-ghost use Rattle.huxarte_c_sets.specs.Cores.{value_of};
+ghost use Rattle.huxarte_c.specs.Cores.{value_of};
 ghost use Rattle.huxarte_c_calls.specs.Verdicts.{verdict_by};
-ghost use Rattle.huxarte_c_sets.specs.Kept.{Begins, IsDoneVerdict, IsNoBegin, IsNoCoreMove};
-ghost use Rattle.huxarte_c_sets.specs.Kept.{IsNoListMove, IsNoMove, Moves};
-ghost use Rattle.huxarte_c_sets.specs.Looking.{handle_seen, instance_seen, part_seen};
-ghost use Rattle.huxarte_c_sets.specs.Looking.{state_seen, told_or};
-ghost use Rattle.huxarte_c_sets.specs.Making.{IsNewVerdict};
-ghost use Rattle.huxarte_c_sets.specs.Refused.{of_set};
-ghost use Rattle.huxarte_c_sets.specs.Written.{regions_or, written_seen};
+ghost use Rattle.huxarte_c.specs.Kept.{Begins, IsDoneVerdict, IsNoBegin, IsNoCoreMove};
+ghost use Rattle.huxarte_c.specs.Kept.{IsNoListMove, IsNoMove, Moves};
+ghost use Rattle.huxarte_c.specs.Looking.{handle_seen, instance_seen, part_seen};
+ghost use Rattle.huxarte_c.specs.Looking.{state_seen, told_or};
+ghost use Rattle.huxarte_c.specs.Making.{IsNewVerdict};
+ghost use Rattle.huxarte_c.specs.Refused.{of_set};
+ghost use Rattle.huxarte_c.specs.Written.{regions_or, written_seen};
 
+use crate::cores::HuxCore;
+use crate::event::HuxEvent;
+use crate::hux_set::HuxSet;
+use crate::looking::{HuxInstance, HuxResource, HuxSetState, handle, instance, read, state};
+use crate::making::make;
+use crate::moving::{begin, call, give, grow, stop, write};
+use crate::telling::{HuxRegion, HuxWritten, written};
 use huxarte_c_calls::{HuxHandle, HuxSpan, HuxVerdict};
-use huxarte_c_sets::{
-    HuxCore, HuxEvent, HuxInstance, HuxRegion, HuxResource, HuxSet, HuxSetState, HuxWritten, begin,
-    call, give, grow, handle, instance, make, read, state, stop, write, written,
-};
 use std::alloc::Global;
 
 /// Links the components of files, each a part of the bytes, as `hux_link` does, and has the handle

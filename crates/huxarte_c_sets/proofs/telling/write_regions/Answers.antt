@@ -1,6 +1,0 @@
-use Rattle.std.proofs.Common.{arith}
-use Rattle.huxarte_c_sets.proofs.WrittenLaws.{regions_written}
-use Rattle.huxarte_c_sets.proofs.telling.write_regions.Goals as goal
-
-pub returns : goal.returns
-returns g c = regions_written c.args.room.now _ c.args.regions.now _ (omega arith) c.put_front.ensures
