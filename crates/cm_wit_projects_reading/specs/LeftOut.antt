@@ -12,7 +12,7 @@ use Rattle.cm_wit_tokens.specs.declared.fault.WitReason.{WitReason}
 use Rattle.cm_wit_tokens.specs.declared.fault.WitReason.TheVariants as reason
 use Rattle.cm_wit_tokens.specs.Faults.{Fault, flaw, and_then}
 use Rattle.cm_wit_tokens.specs.Forms.{is_operator}
-use Rattle.cm_wit_tokens.specs.Grammar.{Grammar, first, first_or, passes}
+use Rattle.cm_wit_tokens.specs.Grammar.{Grammar, first, first_or}
 use Rattle.cm_wit_projects_reading.specs.Trees.{Placed, Kept, kept, left_out}
 
 -- ---- where a thing stands
@@ -41,26 +41,30 @@ is_left_out (form.Keyword word.Future) = true
 is_left_out (form.Keyword word.Async) = true
 is_left_out _ = false
 
--- what stands behind the first mark of this kind
-unfoldable pub past : {A : Type 0} → Operator → A → List Token → Result (A × List Token) Fault
+-- the value x, and what stands behind the first mark of this kind
+unfoldable pub past : Operator → ℕ → List Token → Result (ℕ × List Token) Fault
 past closing x [] = Err (flaw [] reason.Unexpected)
 past closing x (t ∷ ts) = if is_operator closing t.form then Ok (x, ts) else past closing x ts
 
+-- Behind a fault at these tokens, the place of a word that is left out, and what stands behind the
+-- next closing mark; or the fault, where it is at no such word.
+abbrev pub passed : Operator → List Token → WitReason → Result (ℕ × List Token) Fault
+passed closing [] r = Err (flaw [] r)
+passed closing (t ∷ ts) r =
+    if is_left_out t.form then past closing t.left ts else Err (flaw (t ∷ ts) r)
+
 -- What is read by a grammar; or, where it cannot go on with a word that is left out, the place of
 -- that word, and all to the next closing mark is passed over.
-abbrev pub or_past : {A : Type 0} → Operator → Fault → Result (Kept A × List Token) Fault
-or_past closing f =
-    if passes is_left_out (first f.rest) then past closing (left_out (left_of (first f.rest))) f.rest
-    else Err f
-
 abbrev pub kept_from : {A : Type 0} →
     Operator → Result (A × List Token) Fault → Result (Kept A × List Token) Fault
 kept_from closing (Ok p) = Ok (kept p.0, p.1)
-kept_from closing (Err f) = or_past closing f
+kept_from closing (Err f) =
+    and_then (passed closing f.rest f.reason) (λ p. Ok (left_out p.0, p.1))
 
 -- Tokens with which a grammar goes on up to a word that is left out, and others up to a closing
 -- mark.
-pub record PassedOver {A : Type 0} (closing : Operator) (g : Grammar A) (place : ℕ) (ts : List Token) : Type 0 where
+pub record PassedOver {A : Type 0} (closing : Operator) (g : Grammar A) (place : ℕ)
+    (ts : List Token) : Type 0 where
   pub front : List Token
   pub word : Token
   pub others : List Token
@@ -70,7 +74,7 @@ pub record PassedOver {A : Type 0} (closing : Operator) (g : Grammar A) (place :
   pub at : place ≡ word.left
   pub is_word : is_left_out word.form ≡ true
   pub stops : g.reads (front ++ word ∷ []) ≡ Err (flaw (word ∷ []) reason)
-  pub none : AllByRecursion (λ t. is_operator closing t.form ≡ false) (word ∷ others)
+  pub none : AllByRecursion (λ t. is_operator closing t.form ≡ false) others
   pub closes : is_operator closing mark.form ≡ true
 
 abbrev pub KeptSpells : {A : Type 0} →

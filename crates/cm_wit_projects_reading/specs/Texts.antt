@@ -22,9 +22,12 @@ told_reason (Some (form.Keyword word.Include)) r = reason.Unexpected
 told_reason (Some (form.Keyword word.From)) r = reason.Unexpected
 told_reason f r = r
 
+abbrev pub told_fault : Fault → Fault
+told_fault f = flaw f.rest (told_reason (next_form f.rest) f.reason)
+
 abbrev pub told : {A : Type 0} → Result A Fault → Result A Fault
 told (Ok x) = Ok x
-told (Err f) = Err (flaw f.rest (told_reason (next_form f.rest) f.reason))
+told (Err f) = Err (told_fault f)
 
 -- what a text is by a grammar: its value, or its first fault
 abbrev pub text_reads : {A : Type 0} → Grammar A → List ℕ → Result A WitFault

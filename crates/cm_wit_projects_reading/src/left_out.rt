@@ -41,13 +41,13 @@ fn next_is_left_out(cursor: &Cursor) -> bool
     }
 }
 
-/// Takes the tokens up to the first mark of this kind, and that mark.
-fn skip_past(cursor: &mut Cursor, closing: Operator) -> Result<(), ReadError>
-    ensures { SkipsPast closing cursor.old cursor.new result }
+/// Takes the tokens up to the first mark of this kind, and that mark, and answers a place.
+fn skip_past(cursor: &mut Cursor, closing: Operator, place: usize) -> Result<usize, ReadError>
+    ensures { SkipsPast closing place cursor.old cursor.new result }
 {
     while let Some(Token { form, .. }) = cursor.take() {
         if form.is_operator(closing) {
-            return Ok(());
+            return Ok(place);
         }
     }
     Err(ReadError::Fault(WitReason::Unexpected))
@@ -68,7 +68,8 @@ pub fn pass_left_out(
     if !next_is_left_out(cursor) {
         return Err(fault);
     }
-    let place = place(cursor);
-    skip_past(cursor, closing)?;
-    Ok(place)
+    match cursor.take() {
+        Some(word) => skip_past(cursor, closing, word.left),
+        None => Err(fault),
+    }
 }

@@ -1,0 +1,7 @@
+mod PlaceLaws
+mod LeftOutLaws
+mod GateLaws
+mod InterfaceLaws
+mod WorldLaws
+mod FileLaws
+mod TextLaws
