@@ -7,7 +7,7 @@ use Rattle.cm_wit_tokens.specs.Parts.{identifier}
 use Rattle.cm_wit_tokens.proofs.Laws.{done_lawful, bind_lawful, token_lawful, chosen_lawful}
 use Rattle.cm_wit_tokens.proofs.ListLaws.{expect_lawful, expect_word_lawful, items_lawful, items_and_lawful, members_lawful, token_shortens_all}
 use Rattle.cm_wit_reading.specs.declared.heads.TypeHead.TheVariants as plain_is
-use Rattle.cm_wit_reading.specs.Interfaces.{case, def_rest, ended, func_rest, is_static, more_flags, use_rest, used_name}
+use Rattle.cm_wit_reading.specs.Interfaces.{case, def_rest, ended, func_rest, is_static, more_flags, used_name}
 use Rattle.cm_wit_reading.specs.Signatures.{any_type, func, params, typed}
 use Rattle.cm_wit_reading.specs.Types.{most_depth}
 use Rattle.cm_wit_reading.proofs.InterfaceLaws.{name_lawful, braced_lawful, case_lawful, ended_lawful, used_name_lawful}
@@ -20,7 +20,7 @@ use Rattle.cm_wit_projects_reading.specs.declared.heads.MethodHead.TheVariants a
 use Rattle.cm_wit_projects_reading.specs.declared.heads.TypeHead as own
 use Rattle.cm_wit_projects_reading.specs.declared.heads.TypeHead.TheVariants as type_is
 use Rattle.cm_wit_projects_reading.specs.Gates.{gated}
-use Rattle.cm_wit_projects_reading.specs.Interfaces.{kept_func, method_rest, resource_item, resource_rest, type_rest, item_rest, interface_item, interface_items, interface_rest}
+use Rattle.cm_wit_projects_reading.specs.Interfaces.{used_names, use_rest, kept_func, method_rest, resource_item, resource_rest, type_rest, item_rest, interface_item, interface_items, interface_rest}
 use Rattle.cm_wit_projects_reading.proofs.GateLaws.{gated_lawful, gated_shortens}
 use Rattle.cm_wit_projects_reading.proofs.LeftOutLaws.{or_left_out_lawful}
 
@@ -28,9 +28,6 @@ use Rattle.cm_wit_projects_reading.proofs.LeftOutLaws.{or_left_out_lawful}
 
 static_lawful : Lawful is_static
 static_lawful = chosen_lawful _ _ _ (bind_lawful _ _ (expect_word_lawful word.Static) (λ _. done_lawful true)) (done_lawful false)
-
-pub use_lawful : Lawful use_rest
-use_lawful = bind_lawful _ _ path_lawful (λ p. bind_lawful _ _ (expect_lawful operator.Period) (λ _. bind_lawful _ _ (ended_lawful _ (braced_lawful _ (items_lawful operator.RightBrace used_name used_name_lawful))) (λ names. done_lawful _)))
 
 alias_lawful : Lawful (def_rest plain_is.Type)
 alias_lawful = bind_lawful _ _ (expect_lawful operator.Equals) (λ _. bind_lawful _ _ (ended_lawful any_type (ty_lawful true most_depth)) (λ t. done_lawful _))
@@ -47,9 +44,17 @@ enum_lawful = bind_lawful _ _ (braced_lawful _ (items_lawful operator.RightBrace
 flags_lawful : Lawful (def_rest plain_is.Flags)
 flags_lawful = bind_lawful _ _ (braced_lawful _ (items_and_lawful more_flags operator.RightBrace identifier name_lawful)) (λ names. done_lawful _)
 
+pub ruleset use_laws = used_name_lawful
+
 pub ruleset def_laws = (typed_lawful, case_lawful, name_lawful)
 
--- ---- functions and resources
+-- ---- used names, functions and resources
+
+used_names_lawful : Lawful used_names
+used_names_lawful = chosen_lawful _ _ _ (done_lawful []) (items_lawful operator.RightBrace used_name used_name_lawful)
+
+pub use_lawful : Lawful use_rest
+use_lawful = bind_lawful _ _ path_lawful (λ p. bind_lawful _ _ (expect_lawful operator.Period) (λ _. bind_lawful _ _ (ended_lawful _ (braced_lawful _ used_names_lawful)) (λ names. done_lawful _)))
 
 pub kept_func_lawful : Lawful kept_func
 kept_func_lawful = or_left_out_lawful operator.Semicolon func_rest (bind_lawful _ _ (expect_word_lawful word.Func) (λ _. ended_lawful func func_lawful))

@@ -5,3 +5,5 @@ mod InterfaceLaws
 mod WorldLaws
 mod FileLaws
 mod TextLaws
+mod LineLaws
+mod SoughtLaws

@@ -3,12 +3,12 @@ use Rattle.std.specs.Prelude.{ℕ, Bool, List, [], Option, Some, None, if◌then
 use Rattle.cm_wit_tokens.specs.declared.operator.Operator.TheVariants as operator
 use Rattle.cm_wit_tokens.specs.Forms.{is_operator}
 use Rattle.cm_wit_tokens.specs.Grammar.{Grammar, done, ◌>>=◌, token, chosen}
-use Rattle.cm_wit_tokens.specs.Lists.{members}
+use Rattle.cm_wit_tokens.specs.Lists.{items, members}
 use Rattle.cm_wit_tokens.specs.Parts.{expect, identifier}
-use Rattle.cm_wit_reading.specs.Signatures.{Func, Typed, params}
+use Rattle.cm_wit_reading.specs.Signatures.{Func, Typed, params, path}
 use Rattle.cm_wit_reading.specs.declared.heads.TypeHead.TheVariants as plain_is
-use Rattle.cm_wit_reading.specs.Interfaces.{braced, def_rest, ended, func_rest, is_static, use_rest}
-use Rattle.cm_wit_reading.specs.Trees.{constructor, method, static}
+use Rattle.cm_wit_reading.specs.Interfaces.{braced, def_rest, ended, func_rest, is_static, used_name}
+use Rattle.cm_wit_reading.specs.Trees.{constructor, method, static, Use, UsedName}
 use Rattle.cm_wit_projects_reading.specs.declared.heads.TypeHead.{TypeHead}
 use Rattle.cm_wit_projects_reading.specs.declared.heads.TypeHead.TheVariants as type_is
 use Rattle.cm_wit_projects_reading.specs.declared.heads.ItemHead.{ItemHead}
@@ -21,6 +21,21 @@ use Rattle.cm_wit_projects_reading.specs.LeftOut.{or_left_out}
 use Rattle.cm_wit_projects_reading.specs.Trees.{Gated, Kept, kept, left_out, ResourceItem, has, lacks}
 use Rattle.cm_wit_projects_reading.specs.Trees.{TypeItem, def, resource, InterfaceItem, uses, defines}
 use Rattle.cm_wit_projects_reading.specs.Trees.{has_func, Interface}
+
+-- ---- used names
+
+-- [used-name {`,` used-name} [`,`]] (that there may be none is this project's own choice)
+abbrev pub used_names : Grammar (List UsedName)
+used_names =
+    chosen (is_operator operator.RightBrace) (done []) (items operator.RightBrace used_name)
+
+-- path `.` `{` used-names `}` `;`
+abbrev pub use_rest : Grammar Use
+use_rest =
+    path >>= λ p. expect operator.Period >>= λ _. ended (braced used_names) >>= λ names.
+    done (record { path = p; names = names })
+
+-- ---- functions
 
 -- `func` params [`->` ty] `;`
 abbrev pub kept_func : Grammar (Kept Func)

@@ -8,3 +8,4 @@ pub mod Interfaces
 pub mod Worlds
 pub mod Files
 pub mod Texts
+pub mod Places

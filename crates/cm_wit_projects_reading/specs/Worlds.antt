@@ -8,12 +8,12 @@ use Rattle.cm_wit_tokens.specs.Grammar.{Grammar, done, ◌>>=◌, token, chosen}
 use Rattle.cm_wit_tokens.specs.Lists.{items, members}
 use Rattle.cm_wit_tokens.specs.Parts.{expect, expect_word, identifier}
 use Rattle.cm_wit_reading.specs.Signatures.{foreign_rest, local, path}
-use Rattle.cm_wit_reading.specs.Interfaces.{braced, ended, use_rest}
+use Rattle.cm_wit_reading.specs.Interfaces.{braced, ended}
 use Rattle.cm_wit_projects_reading.specs.declared.heads.WorldHead.{WorldHead}
 use Rattle.cm_wit_projects_reading.specs.declared.heads.WorldHead.TheVariants as world_is
 use Rattle.cm_wit_projects_reading.specs.Gates.{gated}
 use Rattle.cm_wit_projects_reading.specs.Heads.{world_head}
-use Rattle.cm_wit_projects_reading.specs.Interfaces.{interface_items, kept_func, type_rest}
+use Rattle.cm_wit_projects_reading.specs.Interfaces.{interface_items, kept_func, type_rest, use_rest}
 use Rattle.cm_wit_projects_reading.specs.Trees.{WorldExtern, interface_at, named_func, in_place}
 use Rattle.cm_wit_projects_reading.specs.Trees.{Renamed, Include, WorldItem, imports, exports}
 use Rattle.cm_wit_projects_reading.specs.Trees.{uses_types, defines_type, includes, World}

@@ -8,13 +8,14 @@ ghost use Rattle.cm_wit_tokens.specs.Parts.{identifier};
 ghost use Rattle.cm_wit_tokens.specs.Reading.{Reads};
 ghost use Rattle.cm_wit_reading.specs.declared.heads.TypeHead.TheVariants as plain_is;
 ghost use Rattle.cm_wit_reading.specs.Interfaces.{braced, def_rest, ended, func_rest, is_static};
-ghost use Rattle.cm_wit_reading.specs.Interfaces.{more_flags, use_rest};
+ghost use Rattle.cm_wit_reading.specs.Interfaces.{more_flags};
 ghost use Rattle.cm_wit_reading.specs.Signatures.{params};
 ghost use Rattle.cm_wit_reading.specs.SignatureViews.{func_tree, typed_tree};
-ghost use Rattle.cm_wit_reading.specs.Views.{type_def_tree, use_tree};
+ghost use Rattle.cm_wit_reading.specs.Views.{type_def_tree, use_tree, used_name_tree};
 ghost use Rattle.cm_wit_projects_reading.specs.Interfaces.{built, interface_items, interface_rest};
 ghost use Rattle.cm_wit_projects_reading.specs.Interfaces.{item_rest, kept_func, method_rest};
 ghost use Rattle.cm_wit_projects_reading.specs.Interfaces.{named_func, resource_rest, type_rest};
+ghost use Rattle.cm_wit_projects_reading.specs.Interfaces.{use_rest, used_names};
 ghost use Rattle.cm_wit_projects_reading.specs.LeftOut.{or_left_out};
 ghost use Rattle.cm_wit_projects_reading.specs.Views.{gated_tree, interface_item_tree};
 ghost use Rattle.cm_wit_projects_reading.specs.Views.{interface_tree, kept_tree};
@@ -27,22 +28,32 @@ use crate::interfaces::{Interface, InterfaceItem, ResourceItem, TypeItem};
 use crate::left_out::{pass_left_out, place};
 use cm_types::{Label, MAX_DEPTH, MAX_FLAGS};
 use cm_wit_reading::{
-    Func, ResourceFunc, TypeDef, Typed, Use, read_func, read_params, read_path, read_type,
+    Func, ResourceFunc, TypeDef, Typed, Use, UsedName, read_func, read_params, read_path, read_type,
 };
 use cm_wit_tokens::{
     Cursor, Item, Keyword, Operator, ReadError, read_items, read_items_and, read_members,
 };
 use std::alloc::Global;
 
+/// Reads the names that are used, where there are any.
+#[tactic(auto, using(crate::proofs::InterfaceLaws::use_laws))]
+fn read_used_names(alloc: Global, cursor: &mut Cursor) -> Result<Vec<UsedName>, ReadError>
+    ensures { Reads used_names (λ v. map used_name_tree v.items) cursor.old cursor.new result }
+{
+    if cursor.next_is(Operator::RightBrace) {
+        return Ok(Vec::new(alloc));
+    }
+    read_items(alloc, cursor, Operator::RightBrace)
+}
+
 /// Reads what stands behind `use`.
-#[tactic(auto, using(cm_wit_reading::proofs::InterfaceLaws::used_name_lawful))]
 pub fn read_use(alloc: Global, cursor: &mut Cursor) -> Result<Use, ReadError>
     ensures { Reads use_rest use_tree cursor.old cursor.new result }
 {
     let path = read_path(cursor)?;
     cursor.expect(Operator::Period)?;
     cursor.expect(Operator::LeftBrace)?;
-    let names = read_items(alloc, cursor, Operator::RightBrace)?;
+    let names = read_used_names(alloc, cursor)?;
     cursor.expect(Operator::RightBrace)?;
     cursor.expect(Operator::Semicolon)?;
     Ok(Use { path, names })
