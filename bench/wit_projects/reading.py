@@ -363,17 +363,24 @@ class Reader:
 
     def gate(self):
         at = self.at
+        if not self.text[at + 1 : at + 2].isalpha():
+            raise Fault("BadToken", at + 1)
         self.expect("@")
         kind = self.name()
         wanted = {"since": "version", "deprecated": "version", "unstable": "feature"}
-        if kind.text not in wanted or kind.at != at + 1:
+        if kind.text not in wanted:
             raise Fault("Unexpected", kind.at)
         self.expect("(")
         field_name = self.name()
         if field_name.text != wanted[kind.text]:
             raise Fault("Unexpected", field_name.at)
         self.expect("=")
-        value = self.version() if field_name.text == "version" else self.name().text
+        if field_name.text == "feature":
+            value = self.name().text
+        elif self.text[self.at : self.at + 1].isdigit():
+            value = self.version()
+        else:
+            raise self.fault()
         self.expect(")")
         return kind.text, value, at
 

@@ -48,7 +48,7 @@ package_items_lawful = braced_lawful _ (members_lawful (gated package_item) gate
 
 -- ---- files
 
-file_rest_lawful : (h : FileHead) → Lawful (file_item_rest h)
+file_rest_lawful : (head : FileHead) → Lawful (file_item_rest head)
 file_rest_lawful (file_is.Item h) = bind_lawful _ _ (package_rest_lawful h) (λ x. done_lawful _)
 file_rest_lawful file_is.Package = bind_lawful _ _ (bind_lawful _ _ name_of_package_lawful (λ name. bind_lawful _ _ package_items_lawful (λ xs. done_lawful _))) (λ p. done_lawful _)
 

@@ -59,7 +59,7 @@ use_lawful = bind_lawful _ _ path_lawful (λ p. bind_lawful _ _ (expect_lawful o
 pub kept_func_lawful : Lawful kept_func
 kept_func_lawful = or_left_out_lawful operator.Semicolon func_rest (bind_lawful _ _ (expect_word_lawful word.Func) (λ _. ended_lawful func func_lawful))
 
-method_lawful : (h : MethodHead) → Lawful (method_rest h)
+method_lawful : (head : MethodHead) → Lawful (method_rest head)
 method_lawful method_is.Constructor = bind_lawful _ _ (or_left_out_lawful operator.Semicolon (ended params) (ended_lawful params params_lawful)) (λ ps. done_lawful _)
 method_lawful (method_is.Named name) = bind_lawful _ _ (expect_lawful operator.Colon) (λ _. bind_lawful _ _ static_lawful (λ s. bind_lawful _ _ kept_func_lawful (λ f. done_lawful _)))
 
@@ -84,7 +84,7 @@ type_lawful type_is.Enum = bind_lawful _ _ enum_lawful (λ t. done_lawful _)
 type_lawful type_is.Flags = bind_lawful _ _ flags_lawful (λ t. done_lawful _)
 type_lawful type_is.Resource = bind_lawful _ _ resource_lawful (λ fs. done_lawful _)
 
-item_lawful : (h : ItemHead) → Lawful (item_rest h)
+item_lawful : (head : ItemHead) → Lawful (item_rest head)
 item_lawful item_is.Use = bind_lawful _ _ use_lawful (λ u. done_lawful _)
 item_lawful (item_is.Type h) = bind_lawful _ _ name_lawful (λ name. bind_lawful _ _ (type_lawful h) (λ t. done_lawful _))
 item_lawful (item_is.Func name) = bind_lawful _ _ (expect_lawful operator.Colon) (λ _. bind_lawful _ _ kept_func_lawful (λ f. done_lawful _))

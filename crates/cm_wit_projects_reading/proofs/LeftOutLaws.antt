@@ -168,7 +168,7 @@ kept_within {A} closing g l ts f (Err d) read e =
       | inr q ↦ absurd (ok_no_err {B = Kept A × List Token} (left_out q.0.0, q.0.1) f q.2)
     ]
 
-nothing_behind : (t : Token) (after : List Token) → t ∷ after ≡ [] → ⊥
+pub nothing_behind : (t : Token) (after : List Token) → t ∷ after ≡ [] → ⊥
 nothing_behind t after e = cc
 
 early_left : {A : Type 0} (closing : Operator) (g : Grammar A) → Lawful g → (front after : List Token) (t : Token) (r : WitReason) (d : Fault) → g.reads (front ++ t ∷ after) ≡ Err d → Stays d.rest d.reason (flaw (t ∷ after) r) → (more : List Token) → kept_from closing (g.reads (front ++ t ∷ more)) ≡ Err (flaw (t ∷ more) r)

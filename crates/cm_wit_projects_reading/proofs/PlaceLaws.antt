@@ -10,7 +10,7 @@ use Rattle.cm_lemmas.proofs.Equations.{ok_is}
 use Rattle.cm_lemmas.proofs.Results.{err_of, ok_of}
 use Rattle.cm_wit_projects_reading.specs.LeftOut.{left_of, placed}
 
-pub ok_no_err : {B : Type 0} (x : B) (f : Fault) → ok_of Fault x ≡ err_of B f → ⊥
+pub ok_no_err : {B E : Type 0} (x : B) (f : E) → ok_of E x ≡ err_of B f → ⊥
 ok_no_err x f e = cc
 
 abbrev with_place : {A : Type 0} → List Token → A × List Token → Result ((ℕ × A) × List Token) Fault

@@ -14,7 +14,7 @@ use Rattle.cm_wit_projects_reading.specs.Worlds.{behind_colon, extern, renamed, 
 use Rattle.cm_wit_projects_reading.proofs.GateLaws.{gated_lawful, gated_shortens}
 use Rattle.cm_wit_projects_reading.proofs.InterfaceLaws.{use_lawful, kept_func_lawful, type_lawful, interface_items_lawful}
 
-behind_colon_lawful : (name : List ℕ) → Lawful (behind_colon name)
+behind_colon_lawful : (before : List ℕ) → Lawful (behind_colon before)
 behind_colon_lawful name = chosen_lawful _ _ _ (bind_lawful _ _ (expect_word_lawful word.Interface) (λ _. bind_lawful _ _ interface_items_lawful (λ xs. done_lawful _))) (chosen_lawful _ _ _ (bind_lawful _ _ kept_func_lawful (λ f. done_lawful _)) (bind_lawful _ _ (ended_lawful _ (foreign_lawful name)) (λ p. done_lawful _)))
 
 extern_lawful : Lawful extern

@@ -7,7 +7,8 @@ use Rattle.cm_wit_tokens.specs.Lists.{items, members}
 use Rattle.cm_wit_tokens.specs.Parts.{expect, identifier}
 use Rattle.cm_wit_reading.specs.Signatures.{Func, Typed, params, path}
 use Rattle.cm_wit_reading.specs.declared.heads.TypeHead.TheVariants as plain_is
-use Rattle.cm_wit_reading.specs.Interfaces.{braced, def_rest, ended, func_rest, is_static, used_name}
+use Rattle.cm_wit_reading.specs.Interfaces.{braced, def_rest, ended, func_rest, is_static}
+use Rattle.cm_wit_reading.specs.Interfaces.{used_name}
 use Rattle.cm_wit_reading.specs.Trees.{constructor, method, static, Use, UsedName}
 use Rattle.cm_wit_projects_reading.specs.declared.heads.TypeHead.{TypeHead}
 use Rattle.cm_wit_projects_reading.specs.declared.heads.TypeHead.TheVariants as type_is
@@ -18,9 +19,9 @@ use Rattle.cm_wit_projects_reading.specs.declared.heads.MethodHead.TheVariants a
 use Rattle.cm_wit_projects_reading.specs.Gates.{gated}
 use Rattle.cm_wit_projects_reading.specs.Heads.{item_head, method_head}
 use Rattle.cm_wit_projects_reading.specs.LeftOut.{or_left_out}
-use Rattle.cm_wit_projects_reading.specs.Trees.{Gated, Kept, kept, left_out, ResourceItem, has, lacks}
-use Rattle.cm_wit_projects_reading.specs.Trees.{TypeItem, def, resource, InterfaceItem, uses, defines}
-use Rattle.cm_wit_projects_reading.specs.Trees.{has_func, Interface}
+use Rattle.cm_wit_projects_reading.specs.Trees.{Gated, Kept, kept, left_out, ResourceItem, has}
+use Rattle.cm_wit_projects_reading.specs.Trees.{lacks, TypeItem, def, resource, InterfaceItem, uses}
+use Rattle.cm_wit_projects_reading.specs.Trees.{defines, has_func, Interface}
 
 -- ---- used names
 

@@ -1,6 +1,6 @@
 -- Where names stand in a text, and in which line.
-use Rattle.std.specs.Prelude.{ℕ, ◌+◌, ◌-◌, ◌/◌, ◌==◌, ◌&&◌, nat_le, Bool, true, false, List, [], ◌∷◌}
-use Rattle.std.specs.Prelude.{filter, length, slice_get, if◌then◌else◌}
+use Rattle.std.specs.Prelude.{ℕ, ◌+◌, ◌-◌, ◌/◌, ◌==◌, ◌&&◌, nat_le, Bool, true, false, List, []}
+use Rattle.std.specs.Prelude.{◌∷◌, filter, length, slice_get, if◌then◌else◌}
 use Rattle.std.specs.Option.{option_map_or}
 use Rattle.cm_wit_tokens.specs.declared.keyword.Keyword.TheVariants as word
 use Rattle.cm_wit_tokens.specs.declared.token.Form.{Form}

@@ -30,30 +30,30 @@ told (Ok x) = Ok x
 told (Err f) = Err (told_fault f)
 
 -- what a text is by a grammar: its value, or its first fault
-abbrev pub text_reads : {A : Type 0} → Grammar A → List ℕ → Result A WitFault
-text_reads g text = placed (length text) (lexed text).stop (told (whole g (lexed text).tokens))
+abbrev pub source_reads : {A : Type 0} → Grammar A → List ℕ → Result A WitFault
+source_reads g text = placed (length text) (lexed text).stop (told (whole g (lexed text).tokens))
 
 -- ---- the same in the terms of the grammar
 
 -- A text of a grammar: tokens to its end that spell the value.
-pub record IsTextOf {A : Type 0} (g : Grammar A) (x : A) (text : List ℕ) : Type 0 where
+pub record IsSourceOf {A : Type 0} (g : Grammar A) (x : A) (text : List ℕ) : Type 0 where
   pub all : (lexed text).stop ≡ None
   pub spells : IsText g x (lexed text).tokens
 
 -- No blank, comment or token begins at the place.
-pub record IsBadToken (text : List ℕ) (e : WitFault) : Type 0 where
+pub record IsBadTokenIn (text : List ℕ) (e : WitFault) : Type 0 where
   pub left : ℕ
   pub stops : (lexed text).stop ≡ Some left
   pub is : e ≡ end_fault (length text) (Some left)
 
 -- No text of the grammar goes on with the token at the place. At the text's end the tokens are no
 -- text.
-pub record IsWrongToken {A : Type 0} (g : Grammar A) (text : List ℕ) (e : WitFault) : Type 0 where
+pub record IsWrongTokenIn {A : Type 0} (g : Grammar A) (text : List ℕ) (e : WitFault) : Type 0 where
   pub rest : List Token
   pub refused : IsRefused g (lexed text).tokens rest
   pub at_end : rest ≡ [] → (lexed text).stop ≡ None
   pub is : e.at ≡ place (length text) rest
 
 -- A fault that is present in a text.
-abbrev pub IsFaultOf : {A : Type 0} → Grammar A → List ℕ → WitFault → Type 0
-IsFaultOf g text e = IsBadToken text e ⊎ IsWrongToken g text e
+abbrev pub IsSourceFault : {A : Type 0} → Grammar A → List ℕ → WitFault → Type 0
+IsSourceFault g text e = IsBadTokenIn text e ⊎ IsWrongTokenIn g text e

@@ -13,7 +13,8 @@ use Rattle.cm_wit_projects_reading.specs.declared.heads.WorldHead.{WorldHead}
 use Rattle.cm_wit_projects_reading.specs.declared.heads.WorldHead.TheVariants as world_is
 use Rattle.cm_wit_projects_reading.specs.Gates.{gated}
 use Rattle.cm_wit_projects_reading.specs.Heads.{world_head}
-use Rattle.cm_wit_projects_reading.specs.Interfaces.{interface_items, kept_func, type_rest, use_rest}
+use Rattle.cm_wit_projects_reading.specs.Interfaces.{interface_items, kept_func}
+use Rattle.cm_wit_projects_reading.specs.Interfaces.{type_rest, use_rest}
 use Rattle.cm_wit_projects_reading.specs.Trees.{WorldExtern, interface_at, named_func, in_place}
 use Rattle.cm_wit_projects_reading.specs.Trees.{Renamed, Include, WorldItem, imports, exports}
 use Rattle.cm_wit_projects_reading.specs.Trees.{uses_types, defines_type, includes, World}
@@ -49,8 +50,7 @@ renamed =
     identifier >>= λ name. expect_word word.As >>= λ _. identifier >>= λ new.
     done (record { name = name; new_name = new })
 
--- path `;`, or path `with` `{` renamed {`,` renamed} [`,`] `}`, where the token of `with` is that of
--- `from`
+-- path `;`, or path `with` `{` renamed {`,` renamed} [`,`] `}` (`with` has the token of `from`)
 abbrev pub include_names : Grammar (List Renamed)
 include_names =
     chosen (is_keyword word.From)

@@ -14,6 +14,7 @@ mod texts;
 mod world_reader;
 mod worlds;
 
+pub use cm_wit_tokens::{WitFault, WitReason};
 pub use file::{FileItem, NestedPackage, PackageItem, PackageName, TopUse, WitFile};
 pub use gates::{Gate, Gated, Kept, PlacedGate};
 pub use interfaces::{Interface, InterfaceItem, ResourceItem, TypeItem};

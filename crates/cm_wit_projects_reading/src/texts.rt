@@ -5,7 +5,8 @@ ghost use Rattle.cm_wit_tokens.specs.Reading.{next_form};
 ghost use Rattle.cm_wit_tokens.specs.Whole.{Answers, GivesAll, IsMemory, end_fault, place_fault};
 ghost use Rattle.cm_wit_tokens.specs.Whole.{whole};
 ghost use Rattle.cm_wit_projects_reading.specs.Files.{file};
-ghost use Rattle.cm_wit_projects_reading.specs.Texts.{IsFaultOf, IsTextOf, text_reads, told_reason};
+ghost use Rattle.cm_wit_projects_reading.specs.Texts.{IsSourceFault, IsSourceOf, source_reads};
+ghost use Rattle.cm_wit_projects_reading.specs.Texts.{told_reason};
 ghost use Rattle.cm_wit_projects_reading.specs.Trees.{File};
 ghost use Rattle.cm_wit_projects_reading.specs.Views.{file_tree};
 
@@ -69,7 +70,7 @@ fn read_all(alloc: Global, cursor: &mut Cursor) -> Result<WitFile, ReadError>
 
 /// Reads a text, or gives its first fault.
 fn read_exactly(alloc: Global, text: &str) -> Result<WitFile, WitFault>
-    ensures { Answers file_tree (text_reads file text.now) result }
+    ensures { Answers file_tree (source_reads file text.now) result }
 {
     let Lexed { tokens, stop } = lexed(alloc, text)?;
     let mut cursor = Cursor::new(tokens);
@@ -93,12 +94,11 @@ fn read_exactly(alloc: Global, text: &str) -> Result<WitFile, WitFault>
 /// `TooDeep` for a type more than 64 deep, `Unsupported` at a word of a form that is left out where
 /// no type or function stands, else `Unexpected`. Or it may be that memory is refused. A type or a
 /// function with a form that is left out is no fault: the tree says where the form begins.
-#[tactic(auto, using(crate::proofs::TextLaws::text_laws, crate::proofs::FileLaws::file_lawful))]
 pub fn read_file(alloc: Global, text: &str) -> Result<WitFile, WitFault>
-    ensures exact { Answers file_tree (text_reads file text.now) result }
-    ensures accepted { IfOk result (λ f. IsTextOf file (file_tree f) text.now) }
-    ensures complete { (f : File) → IsTextOf file f text.now → IfErr result IsMemory }
-    ensures refused { IfErr result (λ e. IsMemory e ⊎ IsFaultOf file text.now e) }
+    ensures exact { Answers file_tree (source_reads file text.now) result }
+    ensures accepted { IfOk result (λ f. IsSourceOf file (file_tree f) text.now) }
+    ensures complete { (f : File) → IsSourceOf file f text.now → IfErr result IsMemory }
+    ensures refused { IfErr result (λ e. IsMemory e ⊎ IsSourceFault file text.now e) }
 {
     read_exactly(alloc, text)
 }

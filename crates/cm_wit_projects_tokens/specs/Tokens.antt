@@ -1,5 +1,5 @@
--- The tokens of WIT texts that projects write (WIT.md, "Lexical structure"): those of a package that
--- stands alone (`cm_wit_tokens`), but for reserved words, gates and a byte-order mark.
+-- The tokens of WIT texts that projects write (WIT.md, "Lexical structure"): those of a package
+-- that stands alone (`cm_wit_tokens`), but for reserved words, gates and a byte-order mark.
 use Rattle.std.specs.Prelude.{ℕ, zero, suc, ◌==◌, ◌&&◌, Bool, false, if◌then◌else◌, List, [], ◌∷◌}
 use Rattle.std.specs.Prelude.{length, drop, codes, Option, Some, None}
 use Rattle.std.specs.Option.{option_map_or}
