@@ -35,10 +35,10 @@ package_rest_lawful package_is.Use = bind_lawful _ _ top_use_lawful (λ u. done_
 package_rest_lawful package_is.Interface = bind_lawful _ _ interface_lawful (λ i. done_lawful _)
 package_rest_lawful package_is.World = bind_lawful _ _ world_lawful (λ w. done_lawful _)
 
-gated_package_lawful : Lawful (gated package_item)
+pub gated_package_lawful : Lawful (gated package_item)
 gated_package_lawful = gated_lawful package_item (λ b. bind_lawful _ _ (token_lawful _) (λ h. package_rest_lawful h))
 
-gated_package_shortens : Shortens (gated package_item)
+pub gated_package_shortens : Shortens (gated package_item)
 gated_package_shortens = gated_shortens package_item (λ b. token_shortens_all _ package_item_rest package_rest_lawful)
 
 pub ruleset package_item_laws = (gated_package_lawful, gated_package_shortens)
@@ -52,10 +52,10 @@ file_rest_lawful : (head : FileHead) → Lawful (file_item_rest head)
 file_rest_lawful (file_is.Item h) = bind_lawful _ _ (package_rest_lawful h) (λ x. done_lawful _)
 file_rest_lawful file_is.Package = bind_lawful _ _ (bind_lawful _ _ name_of_package_lawful (λ name. bind_lawful _ _ package_items_lawful (λ xs. done_lawful _))) (λ p. done_lawful _)
 
-gated_file_lawful : Lawful (gated file_item)
+pub gated_file_lawful : Lawful (gated file_item)
 gated_file_lawful = gated_lawful file_item (λ b. bind_lawful _ _ (token_lawful _) (λ h. file_rest_lawful h))
 
-gated_file_shortens : Shortens (gated file_item)
+pub gated_file_shortens : Shortens (gated file_item)
 gated_file_shortens = gated_shortens file_item (λ b. token_shortens_all _ file_item_rest file_rest_lawful)
 
 pub ruleset file_item_laws = (gated_file_lawful, gated_file_shortens)

@@ -15,7 +15,7 @@ use Rattle.cm_lemmas.proofs.Equations.{ok_is}
 use Rattle.cm_lemmas.proofs.Results.{ok_of}
 use Rattle.cm_wit_projects_reading.specs.declared.heads.GateHead.{GateHead}
 use Rattle.cm_wit_projects_reading.specs.declared.heads.GateHead.TheVariants as gate_is
-use Rattle.cm_wit_projects_reading.specs.Gates.{named_field, version_field, feature_field, gate_rest, gate, next_gate, gates, some_gate, gated}
+use Rattle.cm_wit_projects_reading.specs.Gates.{named_field, version_field, feature_field, gate_rest, gate, next_gate, gates, some_gate, with_gates, behind_gates, gated}
 use Rattle.cm_wit_projects_reading.specs.Heads.{gate_head}
 use Rattle.cm_wit_projects_reading.specs.LeftOut.{placed}
 use Rattle.cm_wit_projects_reading.specs.Trees.{Gate, Placed}
@@ -74,7 +74,10 @@ gates_lawful : Lawful gates
 gates_lawful = steps_lawful next_gate next_gate_lawful next_gate_moves
 
 pub gated_lawful : {A : Type 0} (h : Bool → Grammar A) → ((b : Bool) → Lawful (h b)) → Lawful (gated h)
-gated_lawful h l = bind_lawful _ _ gates_lawful (λ gs. bind_lawful _ _ (placed_lawful (h (some_gate gs)) (l (some_gate gs))) (λ x. done_lawful _))
+gated_lawful h l = bind_lawful gates (λ gs. behind_gates h gs) gates_lawful (λ gs. bind_lawful (placed (h (some_gate gs))) (λ x. done (with_gates gs x)) (placed_lawful (h (some_gate gs)) (l (some_gate gs))) (λ x. done_lawful (with_gates gs x)))
+
+behind_gates_shortens : {A : Type 0} (h : Bool → Grammar A) → ((b : Bool) → Shortens (h b)) → (gs : List (Placed Gate)) → Shortens (behind_gates h gs)
+behind_gates_shortens h s gs = first_shortens (placed (h (some_gate gs))) (λ x. done (with_gates gs x)) (placed_shortens (h (some_gate gs)) (s (some_gate gs))) (λ x. done_lawful (with_gates gs x))
 
 pub gated_shortens : {A : Type 0} (h : Bool → Grammar A) → ((b : Bool) → Shortens (h b)) → Shortens (gated h)
-gated_shortens h s = later_shortens gates (λ gs. placed (h (some_gate gs)) >>= λ x. done _) gates_lawful (λ gs. first_shortens (placed (h (some_gate gs))) (λ x. done _) (placed_shortens (h (some_gate gs)) (s (some_gate gs))) (λ x. done_lawful _))
+gated_shortens h s = later_shortens gates (λ gs. behind_gates h gs) gates_lawful (behind_gates_shortens h s)

@@ -63,10 +63,10 @@ method_lawful : (head : MethodHead) → Lawful (method_rest head)
 method_lawful method_is.Constructor = bind_lawful _ _ (or_left_out_lawful operator.Semicolon (ended params) (ended_lawful params params_lawful)) (λ ps. done_lawful _)
 method_lawful (method_is.Named name) = bind_lawful _ _ (expect_lawful operator.Colon) (λ _. bind_lawful _ _ static_lawful (λ s. bind_lawful _ _ kept_func_lawful (λ f. done_lawful _)))
 
-gated_resource_lawful : Lawful (gated (λ _. resource_item))
+pub gated_resource_lawful : Lawful (gated (λ _. resource_item))
 gated_resource_lawful = gated_lawful (λ _. resource_item) (λ _. bind_lawful _ _ (token_lawful _) (λ h. method_lawful h))
 
-gated_resource_shortens : Shortens (gated (λ _. resource_item))
+pub gated_resource_shortens : Shortens (gated (λ _. resource_item))
 gated_resource_shortens = gated_shortens (λ _. resource_item) (λ _. token_shortens_all _ method_rest method_lawful)
 
 pub ruleset resource_item_laws = (gated_resource_lawful, gated_resource_shortens)
@@ -89,10 +89,10 @@ item_lawful item_is.Use = bind_lawful _ _ use_lawful (λ u. done_lawful _)
 item_lawful (item_is.Type h) = bind_lawful _ _ name_lawful (λ name. bind_lawful _ _ (type_lawful h) (λ t. done_lawful _))
 item_lawful (item_is.Func name) = bind_lawful _ _ (expect_lawful operator.Colon) (λ _. bind_lawful _ _ kept_func_lawful (λ f. done_lawful _))
 
-gated_interface_lawful : Lawful (gated (λ _. interface_item))
+pub gated_interface_lawful : Lawful (gated (λ _. interface_item))
 gated_interface_lawful = gated_lawful (λ _. interface_item) (λ _. bind_lawful _ _ (token_lawful _) (λ h. item_lawful h))
 
-gated_interface_shortens : Shortens (gated (λ _. interface_item))
+pub gated_interface_shortens : Shortens (gated (λ _. interface_item))
 gated_interface_shortens = gated_shortens (λ _. interface_item) (λ _. token_shortens_all _ item_rest item_lawful)
 
 pub ruleset interface_item_laws = (gated_interface_lawful, gated_interface_shortens)

@@ -198,7 +198,7 @@ or_left_out_lawful closing g l = record {
 
 -- ---- what code that passes over what is left out comes to
 
-kept_passed : {A : Type 0} (closing : Operator) (fault : ReadError) (mid new : List Token) (place : ℕ) (read : Result (A × List Token) Fault) → Fails mid fault read → Passes closing fault mid new (Ok place) → kept_from closing read ≡ Ok (left_out place, new)
+pub kept_passed : {A : Type 0} (closing : Operator) (fault : ReadError) (mid new : List Token) (place : ℕ) (read : Result (A × List Token) Fault) → Fails mid fault read → Passes closing fault mid new (Ok place) → kept_from closing read ≡ Ok (left_out place, new)
 kept_passed closing errors.Memory mid new place read h p = absurd cc
 kept_passed closing (errors.Fault r) mid new place read h p = rw (h, p) refl
 
@@ -210,8 +210,11 @@ not_passed : {A : Type 0} (closing : Operator) (e : ReadError) (r : WitReason) (
 not_passed closing errors.Memory r mid new h = tt
 not_passed closing (errors.Fault s) r mid new h = rw h refl
 
-kept_not_passed : {A : Type 0} (closing : Operator) (fault : ReadError) (mid new : List Token) (e : ReadError) (read : Result (A × List Token) Fault) → Fails mid fault read → Passes closing fault mid new (Err e) → Fails new e (kept_from closing read)
+pub kept_not_passed : {A : Type 0} (closing : Operator) (fault : ReadError) (mid new : List Token) (e : ReadError) (read : Result (A × List Token) Fault) → Fails mid fault read → Passes closing fault mid new (Err e) → Fails new e (kept_from closing read)
 kept_not_passed closing errors.Memory mid new e read h p = err_memory e new p (kept_from closing read)
 kept_not_passed {A} closing (errors.Fault r) mid new e read h p = rw h (not_passed {A} closing e r mid new p)
 
-pub ruleset kept_laws = (kept_passed, kept_not_passed)
+pub kept_read : {A : Type 0} (closing : Operator) (read : Result (A × List Token) Fault) (x : A) (new : List Token) → read ≡ Ok (x, new) → kept_from closing read ≡ Ok (kept x, new)
+kept_read closing read x new h = rw h refl
+
+pub ruleset kept_laws = (kept_read, kept_passed, kept_not_passed)

@@ -1,5 +1,6 @@
 mod PlaceLaws
 mod LeftOutLaws
+mod PassingLaws
 mod GateLaws
 mod InterfaceLaws
 mod WorldLaws

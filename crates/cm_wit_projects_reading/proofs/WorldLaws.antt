@@ -36,10 +36,10 @@ item_lawful world_is.Use = bind_lawful _ _ use_lawful (λ u. done_lawful _)
 item_lawful (world_is.Type h) = bind_lawful _ _ name_lawful (λ name. bind_lawful _ _ (type_lawful h) (λ t. done_lawful _))
 item_lawful world_is.Include = bind_lawful _ _ include_lawful (λ i. done_lawful _)
 
-gated_world_lawful : Lawful (gated (λ _. world_item))
+pub gated_world_lawful : Lawful (gated (λ _. world_item))
 gated_world_lawful = gated_lawful (λ _. world_item) (λ _. bind_lawful _ _ (token_lawful _) (λ h. item_lawful h))
 
-gated_world_shortens : Shortens (gated (λ _. world_item))
+pub gated_world_shortens : Shortens (gated (λ _. world_item))
 gated_world_shortens = gated_shortens (λ _. world_item) (λ _. token_shortens_all _ world_item_rest item_lawful)
 
 pub ruleset world_item_laws = (gated_world_lawful, gated_world_shortens)

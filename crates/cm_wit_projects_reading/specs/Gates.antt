@@ -1,5 +1,5 @@
 -- Gates, and what stands behind them (WIT.md, "Feature Gates").
-use Rattle.std.specs.Prelude.{ℕ, Bool, true, false, List, [], ◌∷◌, Option, Some, None, codes}
+use Rattle.std.specs.Prelude.{ℕ, ◌==◌, Bool, not, List, Option, Some, None, codes, length}
 use Rattle.cm_wit_tokens.specs.declared.operator.Operator.TheVariants as operator
 use Rattle.cm_wit_tokens.specs.Forms.{is_operator}
 use Rattle.cm_wit_tokens.specs.Grammar.{Grammar, done, ◌>>=◌, token, chosen, steps}
@@ -42,10 +42,16 @@ gates = steps next_gate
 
 -- whether there are some
 abbrev pub some_gate : List (Placed Gate) → Bool
-some_gate [] = false
-some_gate (x ∷ xs) = true
+some_gate gs = not (length gs == 0)
 
--- gates, and a thing, which may depend on whether there are some
+abbrev pub with_gates : {A : Type 0} → List (Placed Gate) → Placed A → Gated A
+with_gates gs x = record { gates = gs; item = x }
+
+-- behind gates, a thing, which may depend on whether there are some
+abbrev pub behind_gates : {A : Type 0} →
+    (Bool → Grammar A) → List (Placed Gate) → Grammar (Gated A)
+behind_gates h gs = placed (h (some_gate gs)) >>= λ x. done (with_gates gs x)
+
+-- gates, and a thing
 abbrev pub gated : {A : Type 0} → (Bool → Grammar A) → Grammar (Gated A)
-gated h =
-    gates >>= λ gs. placed (h (some_gate gs)) >>= λ x. done (record { gates = gs; item = x })
+gated h = gates >>= λ gs. behind_gates h gs

@@ -3,15 +3,18 @@
 ghost use Rattle.std.specs.Prelude.{◌≡◌};
 ghost use Rattle.cm_wit_tokens.specs.Grammar.{first, passes};
 ghost use Rattle.cm_wit_projects_reading.specs.LeftOut.{is_left_out, left_of};
-ghost use Rattle.cm_wit_projects_reading.specs.Passing.{Passes, SkipsPast};
+ghost use Rattle.cm_wit_projects_reading.specs.Passing.{Passes, PassesWord, SkipsPast};
 
-use cm_wit_tokens::{Cursor, Form, Keyword, Operator, ReadError, Token, WitReason};
+use cm_wit_tokens::{Cursor, Form, Keyword, Operator, ReadError, WitReason};
 
 /// How many bytes of the text are left from the next token on, and none at the text's end.
 pub fn place(cursor: &Cursor) -> usize
     ensures { result ≡ left_of (first cursor.now) }
 {
-    cursor.left().unwrap_or(0)
+    match cursor.left() {
+        Some(left) => left,
+        None => 0,
+    }
 }
 
 /// Whether a token is a word of a form that is left out.
@@ -42,15 +45,34 @@ fn next_is_left_out(cursor: &Cursor) -> bool
 }
 
 /// Takes the tokens up to the first mark of this kind, and that mark, and answers a place.
+#[tactic(auto, using(crate::proofs::PassingLaws::skip_laws))]
 fn skip_past(cursor: &mut Cursor, closing: Operator, place: usize) -> Result<usize, ReadError>
     ensures { SkipsPast closing place cursor.old cursor.new result }
 {
-    while let Some(Token { form, .. }) = cursor.take() {
-        if form.is_operator(closing) {
+    while let Some(token) = cursor.take() {
+        if token.form.is_operator(closing) {
             return Ok(place);
         }
     }
     Err(ReadError::Fault(WitReason::Unexpected))
+}
+
+/// Behind a fault of this reason, passes over what is left out.
+#[tactic(auto, using(crate::proofs::PassingLaws::passing_laws))]
+fn pass_word(
+    cursor: &mut Cursor,
+    closing: Operator,
+    reason: WitReason,
+) -> Result<usize, ReadError>
+    ensures { PassesWord closing reason cursor.old cursor.new result }
+{
+    if !next_is_left_out(cursor) {
+        return Err(ReadError::Fault(reason));
+    }
+    match cursor.take() {
+        Some(word) => skip_past(cursor, closing, word.left),
+        None => Err(ReadError::Fault(reason)),
+    }
 }
 
 /// Where a fault is at a word of a form that is left out, passes over it and all to the next
@@ -62,14 +84,8 @@ pub fn pass_left_out(
 ) -> Result<usize, ReadError>
     ensures { Passes closing fault cursor.old cursor.new result }
 {
-    if let ReadError::Memory = fault {
-        return Err(fault);
-    }
-    if !next_is_left_out(cursor) {
-        return Err(fault);
-    }
-    match cursor.take() {
-        Some(word) => skip_past(cursor, closing, word.left),
-        None => Err(fault),
+    match fault {
+        ReadError::Memory => Err(ReadError::Memory),
+        ReadError::Fault(reason) => pass_word(cursor, closing, reason),
     }
 }

@@ -19,14 +19,14 @@ unfolding run_length
 stops k [] h = refl
 stops k (b ∷ rest) h = rw h refl
 
-run_goes : (k : Run) (text : List ℕ) (i : ℕ) → i < length text → goes_on (run_view k) (drop i text) ≡ true → i + run_length (run_view k) (drop i text) ≡ i + 1 + run_length (run_view k) (drop (i + 1) text)
+pub run_goes : (k : Run) (text : List ℕ) (i : ℕ) → i < length text → goes_on (run_view k) (drop i text) ≡ true → i + run_length (run_view k) (drop i text) ≡ i + 1 + run_length (run_view k) (drop (i + 1) text)
 run_goes k text i lt h =
     let e = drop_more text i 0 lt in
     let g = first_goes k (get_or text i 0) (drop (i + 1) text) (subst (λ (t : List ℕ). goes_on (run_view k) t ≡ true) e h) in
     let r : run_length (run_view k) (drop i text) ≡ suc (run_length (run_view k) (drop (i + 1) text)) = ap (run_length (run_view k)) e ∙ g in
     omega (arith, r)
 
-run_stops : (k : Run) (text : List ℕ) (i : ℕ) → goes_on (run_view k) (drop i text) ≡ false → i + run_length (run_view k) (drop i text) ≡ i
+pub run_stops : (k : Run) (text : List ℕ) (i : ℕ) → goes_on (run_view k) (drop i text) ≡ false → i + run_length (run_view k) (drop i text) ≡ i
 run_stops k text i h = omega (arith, stops k (drop i text) h)
 
 pub run_at_end : (k : Run) (text : List ℕ) (i : ℕ) → length text ≤ i → i + run_length (run_view k) (drop i text) ≡ i

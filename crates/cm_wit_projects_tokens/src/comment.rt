@@ -1,6 +1,6 @@
 //! Comments between `/*` and `*/`, which nest.
 
-ghost use Rattle.std.specs.Prelude.{◌≡◌, ◌+◌, ◌^◌, ◌<◌, ◌≤◌, IfSome};
+ghost use Rattle.std.specs.Prelude.{◌≡◌, ◌+◌, ◌^◌, ◌<◌, ◌≤◌, IfSome, length};
 ghost use Rattle.std.specs.Option.{option_map};
 ghost use Rattle.cm_wit_tokens.specs.Comments.{after_byte, comment_length, inside, opened};
 ghost use Rattle.cm_wit_projects_tokens.specs.Views.{inside_view};
@@ -41,7 +41,8 @@ impl Inside {
 /// How many bytes stand from right behind the first `/*` to the end of its comment, or `None` where
 /// it has no end.
 pub fn comment_length(text: &[u8]) -> Option<usize>
-    ensures { result ≡ comment_length opened text.now }
+    ensures length { result ≡ comment_length opened text.now }
+    ensures within { IfSome result (λ n. n ≤ length text.now) }
 {
     let mut inside = Inside {
         depth: 1,

@@ -108,7 +108,7 @@ fn comment_front(rest: &[u8]) -> Front
     ensures { front_view result ≡ comment_front rest.now }
 {
     match comment_length(rest) {
-        Some(length) => Front::Gap(length.saturating_add(2)),
+        Some(length) => Front::Gap(2 + length),
         None => Front::Bad,
     }
 }

@@ -45,7 +45,7 @@ pub fn lexed(alloc: Global, text: &str) -> Result<Lexed, AllocError>
     let mut standing = Standing::Plain;
     for _turn in 0..all.len() {
         match Front::of_text(alloc, rest, standing)? {
-            Front::End => break,
+            Front::End => return Ok(Lexed { tokens, stop: None }),
             Front::Bad => {
                 return Ok(Lexed {
                     tokens,
