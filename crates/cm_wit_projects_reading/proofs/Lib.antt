@@ -1,4 +1,5 @@
 mod PlaceLaws
+mod MarkLaws
 mod LeftOutLaws
 mod PassingLaws
 mod GateLaws

@@ -14,7 +14,6 @@ use Rattle.cm_lemmas.proofs.Results.{ok_of}
 use Rattle.cm_wit_projects_tokens.specs.Tokens.{lexed}
 use Rattle.cm_wit_projects_reading.specs.Texts.{told_reason, told, source_reads, IsSourceOf, IsSourceFault}
 use Rattle.cm_wit_projects_reading.proofs.PlaceLaws.{ok_no_err}
-use Rattle.cm_wit_projects_reading.proofs.LeftOutLaws.{nothing_behind}
 
 -- ---- what is read is a text
 
@@ -32,6 +31,9 @@ pub source_complete : {A : Type 0} (g : Grammar A) → Lawful g → (text : List
 source_complete g l text x t = rw (text_is_whole g l (lexed text).tokens x t.spells, t.all) refl
 
 -- ---- what is refused has the fault
+
+nothing_behind : (t : Token) (after : List Token) → t ∷ after ≡ [] → ⊥
+nothing_behind t after e = cc
 
 abbrev FaultAt : {A : Type 0} → Grammar A → ℕ → List Token → Option ℕ → WitFault → Type 0
 FaultAt g size tokens stop e =

@@ -5,6 +5,7 @@ use Rattle.std.specs.List.{AllByRecursion}
 use Rattle.cm_wit_tokens.specs.declared.keyword.Keyword.{Keyword}
 use Rattle.cm_wit_tokens.specs.declared.keyword.Keyword.TheVariants as word
 use Rattle.cm_wit_tokens.specs.declared.operator.Operator.{Operator}
+use Rattle.cm_wit_tokens.specs.declared.operator.Operator.TheVariants as operator
 use Rattle.cm_wit_tokens.specs.declared.token.Form.{Form}
 use Rattle.cm_wit_tokens.specs.declared.token.Form.TheVariants as form
 use Rattle.cm_wit_tokens.specs.declared.token.Token.{Token}
@@ -41,41 +42,66 @@ is_left_out (form.Keyword word.Future) = true
 is_left_out (form.Keyword word.Async) = true
 is_left_out _ = false
 
--- the value x, and what stands behind the first mark of this kind
-unfoldable pub past : Operator → ℕ → List Token → Result (ℕ × List Token) Fault
-past closing x [] = Err (flaw [] reason.Unexpected)
-past closing x (t ∷ ts) = if is_operator closing t.form then Ok (x, ts) else past closing x ts
+-- what may stand behind such a word: all but `;`, `{` and `}`
+abbrev pub is_other : Form → Bool
+is_other (form.Operator operator.Semicolon) = false
+is_other (form.Operator operator.LeftBrace) = false
+is_other (form.Operator operator.RightBrace) = false
+is_other f = true
+
+-- the mark that closes, or a fault
+abbrev pub closed : Operator → Token → List Token → Result (Unit {0} × List Token) Fault
+closed closing t ts =
+    if is_operator closing t.form then Ok (tt, ts) else Err (flaw (t ∷ ts) reason.Unexpected)
+
+unfoldable pub past : Operator → List Token → Result (Unit {0} × List Token) Fault
+past closing [] = Err (flaw [] reason.Unexpected)
+past closing (t ∷ ts) = if is_other t.form then past closing ts else closed closing t ts
+
+-- Tokens that may stand there, and the mark that closes.
+pub record PastSpells (closing : Operator) (ts : List Token) : Type 0 where
+  pub others : List Token
+  pub mark : Token
+  pub parts : ts ≡ others ++ mark ∷ []
+  pub each : AllByRecursion (λ t. is_other t.form ≡ true) others
+  pub ends : is_other mark.form ≡ false
+  pub closes : is_operator closing mark.form ≡ true
+
+abbrev pub to_mark : Operator → Grammar (Unit {0})
+to_mark closing = record {
+  Spells = λ x ts next. PastSpells closing ts;
+  reads = past closing;
+}
 
 -- Behind a fault at these tokens, the place of a word that is left out, and what stands behind the
--- next closing mark; or the fault, where it is at no such word.
+-- mark that closes; or the fault, where it is at no such word.
 abbrev pub passed : Operator → List Token → WitReason → Result (ℕ × List Token) Fault
 passed closing [] r = Err (flaw [] r)
 passed closing (t ∷ ts) r =
-    if is_left_out t.form then past closing t.left ts else Err (flaw (t ∷ ts) r)
+    if is_left_out t.form then and_then (past closing ts) (λ p. Ok (t.left, p.1))
+    else Err (flaw (t ∷ ts) r)
 
 -- What is read by a grammar; or, where it cannot go on with a word that is left out, the place of
--- that word, and all to the next closing mark is passed over.
+-- that word, and all to the mark that closes is passed over.
 abbrev pub kept_from : {A : Type 0} →
     Operator → Result (A × List Token) Fault → Result (Kept A × List Token) Fault
 kept_from closing (Ok p) = Ok (kept p.0, p.1)
 kept_from closing (Err f) =
     and_then (passed closing f.rest f.reason) (λ p. Ok (left_out p.0, p.1))
 
--- Tokens with which a grammar goes on up to a word that is left out, and others up to a closing
--- mark.
+-- Tokens with which a grammar goes on up to a word that is left out, and others up to the mark that
+-- closes.
 pub record PassedOver {A : Type 0} (closing : Operator) (g : Grammar A) (place : ℕ)
     (ts : List Token) : Type 0 where
   pub front : List Token
   pub word : Token
   pub others : List Token
-  pub mark : Token
   pub reason : WitReason
-  pub parts : ts ≡ front ++ word ∷ (others ++ mark ∷ [])
+  pub parts : ts ≡ front ++ word ∷ others
   pub at : place ≡ word.left
   pub is_word : is_left_out word.form ≡ true
   pub stops : g.reads (front ++ word ∷ []) ≡ Err (flaw (word ∷ []) reason)
-  pub none : AllByRecursion (λ t. is_operator closing t.form ≡ false) others
-  pub closes : is_operator closing mark.form ≡ true
+  pub over : PastSpells closing others
 
 abbrev pub KeptSpells : {A : Type 0} →
     Operator → Grammar A → Kept A → List Token → Option Token → Type 0

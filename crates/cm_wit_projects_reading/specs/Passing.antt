@@ -6,12 +6,7 @@ use Rattle.cm_wit_tokens.specs.declared.fault.WitReason.{WitReason}
 use Rattle.cm_wit_tokens.specs.declared.operator.Operator.{Operator}
 use Rattle.cm_wit_tokens.specs.declared.token.Token.{Token}
 use Rattle.cm_wit_tokens.specs.Faults.{Gives}
-use Rattle.cm_wit_projects_reading.specs.LeftOut.{passed, past}
-
--- All up to the first mark of a kind was taken, and the value x answered.
-abbrev pub SkipsPast :
-    Operator → ℕ → List Token → List Token → Result ℕ ReadError → Type 0
-SkipsPast closing x old new result = Gives (λ n. n) new result (past closing x old)
+use Rattle.cm_wit_projects_reading.specs.LeftOut.{passed}
 
 -- Behind a fault of this reason, what was left out was passed over, or the fault is the answer.
 abbrev pub PassesWord :

@@ -2,8 +2,9 @@
 
 ghost use Rattle.std.specs.Prelude.{◌≡◌};
 ghost use Rattle.cm_wit_tokens.specs.Grammar.{first, passes};
-ghost use Rattle.cm_wit_projects_reading.specs.LeftOut.{is_left_out, left_of};
-ghost use Rattle.cm_wit_projects_reading.specs.Passing.{Passes, PassesWord, SkipsPast};
+ghost use Rattle.cm_wit_tokens.specs.Reading.{Reads};
+ghost use Rattle.cm_wit_projects_reading.specs.LeftOut.{is_left_out, is_other, left_of, to_mark};
+ghost use Rattle.cm_wit_projects_reading.specs.Passing.{Passes, PassesWord};
 
 use cm_wit_tokens::{Cursor, Form, Keyword, Operator, ReadError, WitReason};
 
@@ -44,17 +45,40 @@ fn next_is_left_out(cursor: &Cursor) -> bool
     }
 }
 
-/// Takes the tokens up to the first mark of this kind, and that mark, and answers a place.
-#[tactic(auto, using(crate::proofs::PassingLaws::skip_laws))]
-fn skip_past(cursor: &mut Cursor, closing: Operator, place: usize) -> Result<usize, ReadError>
-    ensures { SkipsPast closing place cursor.old cursor.new result }
+/// Whether a token may stand behind such a word: all but `;`, `{` and `}`.
+fn is_other(form: &Form) -> bool
+    ensures { result ≡ is_other form.now }
 {
-    while let Some(token) = cursor.take() {
-        if token.form.is_operator(closing) {
-            return Ok(place);
-        }
+    !matches!(
+        form,
+        Form::Operator(Operator::Semicolon | Operator::LeftBrace | Operator::RightBrace)
+    )
+}
+
+/// Whether the next token may stand behind such a word.
+fn next_is_other(cursor: &Cursor) -> bool
+    ensures { result ≡ passes is_other (first cursor.now) }
+{
+    match cursor.next() {
+        Some(form) => is_other(form),
+        None => false,
     }
-    Err(ReadError::Fault(WitReason::Unexpected))
+}
+
+/// Takes the tokens that may stand behind such a word, and the mark that closes.
+#[tactic(auto, using(crate::proofs::PassingLaws::skip_laws))]
+fn skip_past(cursor: &mut Cursor, closing: Operator) -> Result<(), ReadError>
+    ensures { Reads (to_mark closing) (λ x. x) cursor.old cursor.new result }
+{
+    while next_is_other(cursor) {
+        cursor.take();
+    }
+    if cursor.next_is(closing) {
+        cursor.take();
+        Ok(())
+    } else {
+        Err(ReadError::Fault(WitReason::Unexpected))
+    }
 }
 
 /// Behind a fault of this reason, passes over what is left out.
@@ -70,7 +94,10 @@ fn pass_word(
         return Err(ReadError::Fault(reason));
     }
     match cursor.take() {
-        Some(word) => skip_past(cursor, closing, word.left),
+        Some(word) => {
+            skip_past(cursor, closing)?;
+            Ok(word.left)
+        }
         None => Err(ReadError::Fault(reason)),
     }
 }
