@@ -142,11 +142,11 @@ kept_within {A} closing g l ts f (Err d) read e =
     let i = l.within ts d read in
     elim (then_err (passed closing d.rest d.reason) (omitted {A}) f e) [
       | inl q ↦ elim (passed_fails closing d.rest d.reason f q) [
-          | inl s ↦ subst (λ (z : List Token). IsRest ts z) (ap (λ (z : Fault). z.rest) s.same) i
-          | inr h ↦
-              let w = (to_mark_lawful closing).within h.behind f h.fails in
-              record { front = i.front ++ h.word ∷ w.front; parts = parts_behind ts i.front d.rest (h.word ∷ w.front) f.rest i.parts (h.is ∙ ap (λ (z : List Token). h.word ∷ z) w.parts) }
-        ]
+        | inl s ↦ subst (λ (z : List Token). IsRest ts z) (ap (λ (z : Fault). z.rest) s.same) i
+        | inr h ↦
+            let w = (to_mark_lawful closing).within h.behind f h.fails in
+            record { front = i.front ++ h.word ∷ w.front; parts = parts_behind ts i.front d.rest (h.word ∷ w.front) f.rest i.parts (h.is ∙ ap (λ (z : List Token). h.word ∷ z) w.parts) }
+      ]
       | inr q ↦ absurd (ok_no_err {B = Kept A × List Token} (left_out q.0.0, q.0.1) f q.2)
     ]
 
@@ -174,9 +174,9 @@ kept_early {A} closing g l front after t r (Ok p) q e more = absurd (ok_no_err {
 kept_early {A} closing g l front after t r (Err d) q e more =
     elim (then_err (passed closing d.rest d.reason) (omitted {A}) (flaw (t ∷ after) r) e) [
       | inl p ↦ elim (passed_fails closing d.rest d.reason (flaw (t ∷ after) r) p) [
-          | inl s ↦ early_stays closing g l front after t r d q s more
-          | inr h ↦ early_goes closing g l front after t r d q h more
-        ]
+        | inl s ↦ early_stays closing g l front after t r d q s more
+        | inr h ↦ early_goes closing g l front after t r d q h more
+      ]
       | inr p ↦ absurd (ok_no_err {B = Kept A × List Token} (left_out p.0.0, p.0.1) (flaw (t ∷ after) r) p.2)
     ]
 

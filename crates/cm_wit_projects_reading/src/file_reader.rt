@@ -131,11 +131,7 @@ fn read_nested(alloc: Global, cursor: &mut Cursor) -> Result<NestedPackage, Read
 }
 
 /// Reads an item of a file behind its first token.
-fn read_file_item(
-    alloc: Global,
-    cursor: &mut Cursor,
-    head: FileHead,
-) -> Result<FileItem, ReadError>
+fn read_file_item(alloc: Global, cursor: &mut Cursor, head: FileHead) -> Result<FileItem, ReadError>
     ensures { Reads (file_item_rest head) file_item_tree cursor.old cursor.new result }
 {
     match head {

@@ -99,11 +99,7 @@ pub fn read_kept_func(alloc: Global, cursor: &mut Cursor) -> Result<Kept<Func>, 
 {
     match read_func_rest(alloc, cursor) {
         Ok(func) => Ok(Kept::Read(func)),
-        Err(fault) => Ok(Kept::LeftOut(pass_left_out(
-            cursor,
-            Operator::Semicolon,
-            fault,
-        )?)),
+        Err(fault) => Ok(Kept::LeftOut(pass_left_out(cursor, Operator::Semicolon, fault)?)),
     }
 }
 
@@ -118,20 +114,13 @@ fn read_constructor(alloc: Global, cursor: &mut Cursor) -> Result<Vec<Typed>, Re
 
 /// Reads the same, or passes over what is left out.
 #[tactic(auto, using(crate::proofs::LeftOutLaws::kept_laws))]
-fn read_kept_constructor(
-    alloc: Global,
-    cursor: &mut Cursor,
-) -> Result<Kept<Vec<Typed>>, ReadError>
+fn read_kept_constructor(alloc: Global, cursor: &mut Cursor) -> Result<Kept<Vec<Typed>>, ReadError>
     ensures { Reads (or_left_out operator.Semicolon (ended params))
         (kept_tree (λ v. map typed_tree v.items)) cursor.old cursor.new result }
 {
     match read_constructor(alloc, cursor) {
         Ok(params) => Ok(Kept::Read(params)),
-        Err(fault) => Ok(Kept::LeftOut(pass_left_out(
-            cursor,
-            Operator::Semicolon,
-            fault,
-        )?)),
+        Err(fault) => Ok(Kept::LeftOut(pass_left_out(cursor, Operator::Semicolon, fault)?)),
     }
 }
 
@@ -261,11 +250,7 @@ fn read_kept_alias(alloc: Global, cursor: &mut Cursor) -> Result<Kept<TypeDef>, 
 {
     match read_alias(alloc, cursor) {
         Ok(def) => Ok(Kept::Read(def)),
-        Err(fault) => Ok(Kept::LeftOut(pass_left_out(
-            cursor,
-            Operator::Semicolon,
-            fault,
-        )?)),
+        Err(fault) => Ok(Kept::LeftOut(pass_left_out(cursor, Operator::Semicolon, fault)?)),
     }
 }
 
@@ -277,11 +262,7 @@ fn read_kept_record(alloc: Global, cursor: &mut Cursor) -> Result<Kept<TypeDef>,
 {
     match read_record(alloc, cursor) {
         Ok(def) => Ok(Kept::Read(def)),
-        Err(fault) => Ok(Kept::LeftOut(pass_left_out(
-            cursor,
-            Operator::RightBrace,
-            fault,
-        )?)),
+        Err(fault) => Ok(Kept::LeftOut(pass_left_out(cursor, Operator::RightBrace, fault)?)),
     }
 }
 
@@ -293,11 +274,7 @@ fn read_kept_variant(alloc: Global, cursor: &mut Cursor) -> Result<Kept<TypeDef>
 {
     match read_variant(alloc, cursor) {
         Ok(def) => Ok(Kept::Read(def)),
-        Err(fault) => Ok(Kept::LeftOut(pass_left_out(
-            cursor,
-            Operator::RightBrace,
-            fault,
-        )?)),
+        Err(fault) => Ok(Kept::LeftOut(pass_left_out(cursor, Operator::RightBrace, fault)?)),
     }
 }
 

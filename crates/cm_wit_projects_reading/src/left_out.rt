@@ -83,11 +83,7 @@ fn skip_past(cursor: &mut Cursor, closing: Operator) -> Result<(), ReadError>
 
 /// Behind a fault of this reason, passes over what is left out.
 #[tactic(auto, using(crate::proofs::PassingLaws::passing_laws))]
-fn pass_word(
-    cursor: &mut Cursor,
-    closing: Operator,
-    reason: WitReason,
-) -> Result<usize, ReadError>
+fn pass_word(cursor: &mut Cursor, closing: Operator, reason: WitReason) -> Result<usize, ReadError>
     ensures { PassesWord closing reason cursor.old cursor.new result }
 {
     if !next_is_left_out(cursor) {

@@ -12,9 +12,7 @@ ghost use Rattle.cm_wit_projects_reading.specs.Views.{file_tree};
 
 use crate::file::WitFile;
 use cm_wit_projects_tokens::lexed;
-use cm_wit_tokens::{
-    Cursor, Form, Item, Keyword, Lexed, ReadError, WitFault, WitReason,
-};
+use cm_wit_tokens::{Cursor, Form, Item, Keyword, Lexed, ReadError, WitFault, WitReason};
 use std::alloc::Global;
 
 /// The fault at the end of the tokens of a text of `size` bytes, or where `left` bytes are left and
