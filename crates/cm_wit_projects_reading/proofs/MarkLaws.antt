@@ -34,18 +34,20 @@ closed_takes closing t ts rest x true o q e =
 closed_takes closing t ts rest x false o q e = absurd (ok_no_err {B = Unit {0} × List Token} (x, rest) (flaw (t ∷ ts) reason.Unexpected) (sym e))
 
 further : (closing : Operator) (t : Token) (ts rest : List Token) (x : Unit {0}) → is_other t.form ≡ true → Takes (to_mark closing) x ts rest → Takes (to_mark closing) x (t ∷ ts) rest
-further closing t ts rest x o k = record {
-  front = t ∷ k.front;
-  spells = record {
-    others = t ∷ k.spells.others;
-    mark = k.spells.mark;
-    parts = ap (λ (z : List Token). t ∷ z) k.spells.parts;
-    each = (o, k.spells.each);
-    ends = k.spells.ends;
-    closes = k.spells.closes;
-  };
-  parts = ap (λ (z : List Token). t ∷ z) k.parts;
-}
+further closing t ts rest x o k =
+    let s : PastSpells closing k.front = k.spells in
+    record {
+      front = t ∷ k.front;
+      spells = record {
+        others = t ∷ s.others;
+        mark = s.mark;
+        parts = ap (λ (z : List Token). t ∷ z) s.parts;
+        each = (o, s.each);
+        ends = s.ends;
+        closes = s.closes;
+      };
+      parts = ap (λ (z : List Token). t ∷ z) k.parts;
+    }
 
 past_takes_by : (closing : Operator) (t : Token) (ts rest : List Token) (x : Unit {0}) (b : Bool) → is_other t.form ≡ b → (past closing ts ≡ Ok (x, rest) → Takes (to_mark closing) x ts rest) → (if b then past closing ts else closed closing t ts) ≡ Ok (x, rest) → Takes (to_mark closing) x (t ∷ ts) rest
 past_takes_by closing t ts rest x true o more e = further closing t ts rest x o (more e)

@@ -1,5 +1,5 @@
 -- What code that passes over tokens comes to.
-use Rattle.std.proofs.Common.{◌≡◌, ◌<◌, ℕ, zero, Bool, true, false, List, [], ◌∷◌, length, Option, Some, None, MatchOption, Result, Ok, Err, refl, sym, ap, ◌∙◌, arith}
+use Rattle.std.proofs.Common.{◌≡◌, ◌<◌, ℕ, zero, Bool, true, false, List, [], ◌∷◌, length, Option, Some, None, MatchOption, Result, Ok, Err, refl, sym, ap, subst, ◌∙◌, arith}
 use Rattle.cm_wit_tokens.specs.declared.fault.ReadError.{ReadError}
 use Rattle.cm_wit_tokens.specs.declared.fault.ReadError.TheVariants as errors
 use Rattle.cm_wit_tokens.specs.declared.fault.WitReason.{WitReason}
@@ -34,7 +34,7 @@ pub skips_start : (closing : Operator) (all : List Token) → Skips closing all 
 skips_start closing all = record { is = refl }
 
 -- what taking a token answers
-abbrev Taken : List Token → List Token → Option Token → Type 0
+abbrev pub Taken : List Token → List Token → Option Token → Type 0
 Taken old new o = MatchOption o ((old ≡ []) × (new ≡ [])) (λ t. old ≡ t ∷ new)
 
 some_first : (test : Form → Bool) (old : List Token) → old ≡ [] → passes test (first old) ≡ true → ⊥
@@ -90,16 +90,16 @@ word_first : (old mid : List Token) (t : Token) → old ≡ t ∷ mid → passes
 word_first old mid t e is = sym (ap (λ (ts : List Token). passes is_left_out (first ts)) e) ∙ is
 
 pub passed_on : (closing : Operator) (old mid new : List Token) (t : Token) (r : WitReason) → old ≡ t ∷ mid → passes is_left_out (first old) ≡ true → past closing mid ≡ Ok (tt, new) → passed closing old r ≡ Ok (t.left, new)
-passed_on closing old mid new t r e is h = rw (e, passed_word closing t mid r (word_first old mid t e is), h) refl
+passed_on closing old mid new t r e is h = ap (λ (ts : List Token). passed closing ts r) e ∙ (passed_word closing t mid r (word_first old mid t e is) ∙ rw h refl)
 
 fails_on : (closing : Operator) (mid new : List Token) (t : Token) (e : ReadError) → Fails new e (past closing mid) → Fails new e (and_then (past closing mid) (λ p. ok_of Fault (t.left, p.1)))
 fails_on closing mid new t errors.Memory h = tt
 fails_on closing mid new t (errors.Fault s) h = rw h refl
 
 pub passed_fails_on : (closing : Operator) (old mid new : List Token) (t : Token) (r : WitReason) (e : ReadError) → old ≡ t ∷ mid → passes is_left_out (first old) ≡ true → Fails new e (past closing mid) → Fails new e (passed closing old r)
-passed_fails_on closing old mid new t r e q is h = rw (q, passed_word closing t mid r (word_first old mid t q is)) (fails_on closing mid new t e h)
+passed_fails_on closing old mid new t r e q is h = subst (λ (z : Result (ℕ × List Token) Fault). Fails new e z) (sym (ap (λ (ts : List Token). passed closing ts r) q ∙ passed_word closing t mid r (word_first old mid t q is))) (fails_on closing mid new t e h)
 
 pub passed_end : (closing : Operator) (old new : List Token) (r : WitReason) → old ≡ [] → new ≡ [] → passed closing old r ≡ Err (flaw new r)
-passed_end closing old new r e f = rw (e, f) refl
+passed_end closing old new r e f = ap (λ (ts : List Token). passed closing ts r) e ∙ rw f refl
 
 pub ruleset passing_laws = (passed_not, passed_on, passed_fails_on, passed_end)
