@@ -1,14 +1,17 @@
 -- The tokens of a text, read turn by turn.
-use Rattle.std.proofs.Common.{◌≡◌, ℕ, zero, suc, ◌<◌, List, [], ◌∷◌, ◌++◌, length, drop, Some, None, refl, sym, ap, subst, ◌∙◌, append_assoc, append-nil, arith}
+use Rattle.std.proofs.Common.{◌≡◌, ℕ, zero, suc, ◌+◌, ◌-◌, ◌<◌, List, [], ◌∷◌, ◌++◌, length, drop, Some, None, refl, sym, ap, subst, ◌∙◌, append_assoc, append-nil, arith}
 use Rattle.std.proofs.lemmas.List.{drop_all}
 use Rattle.cm_wit_tokens.specs.declared.token.Form.{Form}
 use Rattle.cm_wit_tokens.specs.declared.token.Token.{Token}
 use Rattle.cm_wit_tokens.specs.declared.front.Front.{Front}
 use Rattle.cm_wit_tokens.specs.declared.front.Front.TheVariants as front_is
 use Rattle.cm_wit_tokens.specs.Tokens.{Lexed}
+use Rattle.cm_wit_projects_tokens.specs.declared.front.Front as own_front
+use Rattle.cm_wit_projects_tokens.specs.declared.front.Front.TheVariants as own_is
 use Rattle.cm_wit_projects_tokens.specs.declared.standing.Standing.{Standing}
 use Rattle.cm_wit_projects_tokens.specs.Gates.{standing_behind}
 use Rattle.cm_wit_projects_tokens.specs.Tokens.{after_front, front_at, lexed_in}
+use Rattle.cm_wit_projects_tokens.specs.Views.{front_view}
 
 pub ruleset behind_laws = drop_all
 
@@ -32,23 +35,28 @@ unfolding lexed_in
 goes_to_limit zero ts s rest all e g = sym (sym g.same ∙ rw (append-nil ts) refl)
 goes_to_limit (suc turns) ts s rest all e g = absurd (omega (arith, e))
 
--- the same, where a turn is left
-next : (turns fewer : ℕ) (ts : List Token) (s : Standing) (rest : List ℕ) (all : Lexed) (f : Front) → turns ≡ suc fewer → Goes turns ts s rest all → front_at s rest ≡ f → behind ts (after_front (lexed_in fewer) s rest f) ≡ all
-next turns fewer ts s rest all f e g h = sym (ap (behind ts) (turn fewer s rest f h)) ∙ (subst (λ (n : ℕ). Goes n ts s rest all) e g).same
+-- the same, where a turn is left, by what the code found at the front
+next : (i end : ℕ) (ts : List Token) (s : Standing) (rest : List ℕ) (all : Lexed) (f : Front) → i < end → Goes (end - i) ts s rest all → front_at s rest ≡ f → behind ts (after_front (lexed_in (end - (i + 1))) s rest f) ≡ all
+next i end ts s rest all f lt g h =
+    let e : end - i ≡ suc (end - (i + 1)) = omega (arith, lt) in
+    sym (ap (behind ts) (turn (end - (i + 1)) s rest f h)) ∙ (subst (λ (n : ℕ). Goes n ts s rest all) e g).same
 
-pub goes_to_end : (turns fewer : ℕ) (ts : List Token) (s : Standing) (rest : List ℕ) (all : Lexed) → turns ≡ suc fewer → Goes turns ts s rest all → front_at s rest ≡ front_is.End → record { tokens = ts; stop = None } ≡ all
-goes_to_end turns fewer ts s rest all e g h = sym (sym (next turns fewer ts s rest all front_is.End e g h) ∙ rw (append-nil ts) refl)
+found : (s : Standing) (rest : List ℕ) (f g : own_front.Front) → front_view f ≡ front_at s rest → f ≡ g → front_at s rest ≡ front_view g
+found s rest f g e is = sym e ∙ ap front_view is
 
-pub goes_to_stop : (turns fewer : ℕ) (ts : List Token) (s : Standing) (rest : List ℕ) (all : Lexed) → turns ≡ suc fewer → Goes turns ts s rest all → front_at s rest ≡ front_is.Bad → record { tokens = ts; stop = Some (length rest) } ≡ all
-goes_to_stop turns fewer ts s rest all e g h = sym (sym (next turns fewer ts s rest all front_is.Bad e g h) ∙ rw (append-nil ts) refl)
+pub goes_to_end : (i end : ℕ) (ts : List Token) (s : Standing) (rest : List ℕ) (all : Lexed) (f : own_front.Front) → i < end → Goes (end - i) ts s rest all → front_view f ≡ front_at s rest → f ≡ own_is.End → record { tokens = ts; stop = None } ≡ all
+goes_to_end i end ts s rest all f lt g e is = sym (sym (next i end ts s rest all front_is.End lt g (found s rest f own_is.End e is)) ∙ rw (append-nil ts) refl)
 
-pub goes_past_gap : (turns fewer : ℕ) (ts : List Token) (s : Standing) (rest : List ℕ) (all : Lexed) (n : ℕ) → turns ≡ suc fewer → Goes turns ts s rest all → front_at s rest ≡ front_is.Gap n → Goes fewer ts s (drop n rest) all
-goes_past_gap turns fewer ts s rest all n e g h = record { same = next turns fewer ts s rest all (front_is.Gap n) e g h }
+pub goes_to_stop : (i end : ℕ) (ts : List Token) (s : Standing) (rest : List ℕ) (all : Lexed) (f : own_front.Front) → i < end → Goes (end - i) ts s rest all → front_view f ≡ front_at s rest → f ≡ own_is.Bad → record { tokens = ts; stop = Some (length rest) } ≡ all
+goes_to_stop i end ts s rest all f lt g e is = sym (sym (next i end ts s rest all front_is.Bad lt g (found s rest f own_is.Bad e is)) ∙ rw (append-nil ts) refl)
 
-pub goes_past_token : (turns fewer : ℕ) (ts : List Token) (s : Standing) (rest : List ℕ) (all : Lexed) (f : Form) (n : ℕ) → turns ≡ suc fewer → Goes turns ts s rest all → front_at s rest ≡ front_is.Token f n → Goes fewer (ts ++ record { left = length rest; form = f } ∷ []) (standing_behind s f) (drop n rest) all
-goes_past_token turns fewer ts s rest all f n e g h =
-    let here : Token = record { left = length rest; form = f } in
-    let later = lexed_in fewer (standing_behind s f) (drop n rest) in
-    record { same = ap (λ (tokens : List Token). record { tokens = tokens; stop = later.stop }) (append_assoc ts (here ∷ []) later.tokens) ∙ next turns fewer ts s rest all (front_is.Token f n) e g h }
+pub goes_past_gap : (i end : ℕ) (ts : List Token) (s : Standing) (rest : List ℕ) (all : Lexed) (f : own_front.Front) (n : ℕ) → i < end → Goes (end - i) ts s rest all → front_view f ≡ front_at s rest → f ≡ own_is.Gap n → Goes (end - (i + 1)) ts s (drop n rest) all
+goes_past_gap i end ts s rest all f n lt g e is = record { same = next i end ts s rest all (front_is.Gap n) lt g (found s rest f (own_is.Gap n) e is) }
+
+pub goes_past_token : (i end : ℕ) (ts : List Token) (s : Standing) (rest : List ℕ) (all : Lexed) (f : own_front.Front) (form : Form) (n : ℕ) → i < end → Goes (end - i) ts s rest all → front_view f ≡ front_at s rest → f ≡ own_is.Token form n → Goes (end - (i + 1)) (ts ++ record { left = length rest; form = form } ∷ []) (standing_behind s form) (drop n rest) all
+goes_past_token i end ts s rest all f form n lt g e is =
+    let here : Token = record { left = length rest; form = form } in
+    let later = lexed_in (end - (i + 1)) (standing_behind s form) (drop n rest) in
+    record { same = ap (λ (tokens : List Token). record { tokens = tokens; stop = later.stop }) (append_assoc ts (here ∷ []) later.tokens) ∙ next i end ts s rest all (front_is.Token form n) lt g (found s rest f (own_is.Token form n) e is) }
 
 pub ruleset lexed_laws = (goes_past_gap, goes_past_token)

@@ -52,7 +52,10 @@ pub fn lexed(alloc: Global, text: &str) -> Result<Lexed, AllocError>
                     stop: Some(rest.len()),
                 });
             }
-            Front::Gap(length) => rest = behind(rest, length),
+            Front::Gap(length) => {
+                rest = behind(rest, length);
+                continue;
+            }
             Front::Token(form, length) => {
                 standing = standing.behind(&form);
                 tokens.push_back(Token {
