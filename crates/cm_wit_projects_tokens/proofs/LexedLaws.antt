@@ -9,8 +9,9 @@ use Rattle.cm_wit_tokens.specs.Tokens.{Lexed}
 use Rattle.cm_wit_projects_tokens.specs.declared.front.Front as own_front
 use Rattle.cm_wit_projects_tokens.specs.declared.front.Front.TheVariants as own_is
 use Rattle.cm_wit_projects_tokens.specs.declared.standing.Standing.{Standing}
+use Rattle.cm_wit_projects_tokens.specs.declared.standing.Standing.TheVariants as standing
 use Rattle.cm_wit_projects_tokens.specs.Gates.{standing_behind}
-use Rattle.cm_wit_projects_tokens.specs.Tokens.{after_front, front_at, lexed_in}
+use Rattle.cm_wit_projects_tokens.specs.Tokens.{after_front, front_at, lexed_in, lexed, without_mark}
 use Rattle.cm_wit_projects_tokens.specs.Views.{front_view}
 
 pub ruleset behind_laws = drop_all
@@ -23,8 +24,17 @@ behind ts l = record { tokens = ts ++ l.tokens; stop = l.stop }
 pub record Goes (turns : ℕ) (ts : List Token) (s : Standing) (rest : List ℕ) (all : Lexed) : Type 0 where
   pub same : behind ts (lexed_in turns s rest) ≡ all
 
-pub goes_at_first : (turns : ℕ) (s : Standing) (text : List ℕ) → Goes turns [] s text (lexed_in turns s text)
+goes_at_first : (turns : ℕ) (s : Standing) (text : List ℕ) → Goes turns [] s text (lexed_in turns s text)
 goes_at_first turns s text = record { same = refl }
+
+pub goes_init : (ts : List Token) (all bytes text : List ℕ) → ts ≡ [] → all ≡ without_mark bytes → bytes ≡ text → Goes (length all - 0) ts standing.Plain all (lexed text)
+goes_init ts all bytes text e f g =
+    let h = f ∙ ap without_mark g in
+    let k : length (without_mark text) ≡ length (without_mark text) - 0 = omega arith in
+    subst (λ (z : List Token). Goes (length all - 0) z standing.Plain all (lexed text)) (sym e)
+    (subst (λ (z : List ℕ). Goes (length z - 0) [] standing.Plain z (lexed text)) (sym h)
+    (subst (λ (n : ℕ). Goes n [] standing.Plain (without_mark text) (lexed text)) k
+    (goes_at_first (length (without_mark text)) standing.Plain (without_mark text))))
 
 turn : (turns : ℕ) (s : Standing) (rest : List ℕ) (f : Front) → front_at s rest ≡ f → lexed_in (suc turns) s rest ≡ after_front (lexed_in turns) s rest f
 unfolding lexed_in
@@ -59,4 +69,4 @@ goes_past_token i end ts s rest all f form n lt g e is =
     let later = lexed_in (end - (i + 1)) (standing_behind s form) (drop n rest) in
     record { same = ap (λ (tokens : List Token). record { tokens = tokens; stop = later.stop }) (append_assoc ts (here ∷ []) later.tokens) ∙ next i end ts s rest all (front_is.Token form n) lt g (found s rest f (own_is.Token form n) e is) }
 
-pub ruleset lexed_laws = (goes_past_gap, goes_past_token)
+pub ruleset lexed_laws = (goes_init, goes_past_gap, goes_past_token)

@@ -1,16 +1,7 @@
-use Rattle.std.proofs.Common.{ℕ, List, [], ◌-◌, length, arith, sym, ap, subst, ◌∙◌}
-use Rattle.cm_wit_projects_tokens.specs.declared.standing.Standing.TheVariants as standing
-use Rattle.cm_wit_projects_tokens.specs.Tokens.{lexed, without_mark}
-use Rattle.cm_wit_projects_tokens.proofs.LexedLaws.{Goes, goes_at_first, goes_to_end, goes_to_stop, goes_to_limit}
+use Rattle.std.proofs.Common.{◌-◌, length, arith}
+use Rattle.cm_wit_projects_tokens.specs.Tokens.{lexed}
+use Rattle.cm_wit_projects_tokens.proofs.LexedLaws.{goes_to_end, goes_to_stop, goes_to_limit}
 use Rattle.cm_wit_projects_tokens.proofs.tokens.lexed.Goals as goal
-
-pub loop-turn-init : goal.loop-turn-init
-loop-turn-init c =
-    let text = c.args.text.now in
-    let e = c.without_mark-all.ensures ∙ ap without_mark c.as_bytes.ensures.value in
-    subst (λ (z : List ℕ). Goes (length z - 0) [] standing.Plain z (lexed text)) (sym e)
-    (subst (λ (n : ℕ). Goes n [] standing.Plain (without_mark text) (lexed text)) (omega arith)
-    (goes_at_first (length (without_mark text)) standing.Plain (without_mark text)))
 
 pub returns-in-End : goal.returns-in-End
 returns-in-End c =
