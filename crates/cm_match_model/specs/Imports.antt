@@ -1,6 +1,7 @@
 -- The imports of a set of components, and the exports that they may be linked to (how components
 -- are linked is this project's own choice).
-use Rattle.std.specs.Prelude.{ℕ, ◌+◌, Bool, true, ◌&&◌, filter, List, [], ◌∷◌, ◌++◌, Option, Some, None, slice_get, take}
+use Rattle.std.specs.Prelude.{ℕ, ◌+◌, Bool, true, ◌&&◌, filter, List, [], ◌∷◌, ◌++◌, Option, Some}
+use Rattle.std.specs.Prelude.{None, slice_get, take}
 use Rattle.std.specs.Option.{option_map, option_and_then}
 use Rattle.cm_types.specs.Signatures.{NamedExtern}
 use Rattle.cm_match_model.specs.Fitting.{NamedExport, fits, named_export}

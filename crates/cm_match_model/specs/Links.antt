@@ -9,7 +9,8 @@ use Rattle.cm_match_model.specs.declared.fault.LinkReason.{LinkReason}
 use Rattle.cm_match_model.specs.declared.fault.LinkReason.TheVariants as reason
 use Rattle.cm_match_model.specs.declared.plan.TheConstants.{MAX_COMPONENTS}
 use Rattle.cm_match_model.specs.declared.plan.PlanLine.{PlanLine}
-use Rattle.cm_match_model.specs.Imports.{ImportAt, LinkSet, candidates, export_in, imports_of, link_of}
+use Rattle.cm_match_model.specs.Imports.{ImportAt, LinkSet, candidates, export_in, imports_of}
+use Rattle.cm_match_model.specs.Imports.{link_of}
 use Rattle.cm_match_model.specs.Serving.{IsExternUnserved, IsFirst, ServesExtern}
 
 -- an import has just one candidate, which serves it

@@ -1,14 +1,13 @@
 -- Which exports the imports of a set see, where components are grouped and links are chosen (how
 -- components are linked is this project's own choice).
-use Rattle.std.specs.Prelude.{ℕ, zero, suc, Bool, true, ◌&&◌, ◌==◌, List, [], ◌∷◌, Option, Some, None}
-use Rattle.std.specs.Prelude.{filter, if◌then◌else◌, nat_lt, slice_get}
-use Rattle.std.specs.Prelude.{option_to_list}
+use Rattle.std.specs.Prelude.{ℕ, zero, suc, Bool, true, ◌&&◌, ◌==◌, List, [], ◌∷◌, Option, Some}
+use Rattle.std.specs.Prelude.{None, filter, if◌then◌else◌, nat_lt, option_and_then}
+use Rattle.std.specs.Prelude.{option_to_list, slice_get}
 use Rattle.std.specs.Option.{option_map, option_map_or}
-use Rattle.cm_validate_model.specs.Spaces.{Spaces}
-use Rattle.cm_match_model.specs.declared.component.Link.{Link}
-use Rattle.std.specs.Prelude.{option_and_then}
 use Rattle.std.specs.declared.alloc.Global.{Global}
 use Rattle.std.specs.declared.vec.Vec.{Vec}
+use Rattle.cm_validate_model.specs.Spaces.{Spaces}
+use Rattle.cm_match_model.specs.declared.component.Link.{Link}
 use Rattle.cm_match_model.specs.declared.sight.Choices.{Choices}
 use Rattle.cm_match_model.specs.declared.sight.Place.{Place}
 use Rattle.cm_match_model.specs.Fitting.{NamedExport, named_export}

@@ -44,8 +44,8 @@ pub fn imports_bring_in_order()
 /// a resource of the type's own is, in the end, the same for both, where the item that brings it is
 /// served.
 pub fn served_resources_are_the_same()
-    ensures { (components : List (List SectionTree)) (sees : Sees) (c j k d : ℕ) (t : InstanceTy) (a b : ℕ)
-        (members : List NamedMember)
+    ensures { (components : List (List SectionTree)) (sees : Sees) (c j k d : ℕ) (t : InstanceTy)
+        (a b : ℕ) (members : List NamedMember)
         → IsLinkedTo (seen_by sees (map spaces_of components)) c j t a d (exported_instance members)
         → IsLinkedTo (seen_by sees (map spaces_of components)) c k t b d (exported_instance members)
         → (number : ℕ) (i : NamedItem) (r : ResourceId) → slice_get t.items number ≡ Some i
@@ -64,13 +64,15 @@ pub fn served_resources_are_the_same()
 /// The items of two such imports are alike, one by one, as far as they are served. So the first
 /// that is not served is the item of the same number, and for the same reason.
 pub fn items_are_alike()
-    ensures alike { (components : List (List SectionTree)) (sees : Sees) (c j k d : ℕ) (t : InstanceTy) (a b : ℕ)
-        (members : List NamedMember) → OwnsWhatItBrings t
+    ensures alike { (components : List (List SectionTree)) (sees : Sees) (c j k d : ℕ)
+        (t : InstanceTy) (a b : ℕ) (members : List NamedMember) → OwnsWhatItBrings t
         → IsLinkedTo (seen_by sees (map spaces_of components)) c j t a d (exported_instance members)
         → IsLinkedTo (seen_by sees (map spaces_of components)) c k t b d (exported_instance members)
-        → AreAllAlike (seen_by sees (map spaces_of components)) c d members (items_from t a) (items_from t b) }
-    ensures fails { (components : List (List SectionTree)) (sees : Sees) (c j k d : ℕ) (t : InstanceTy)
-        (a b : ℕ) (members : List NamedMember) (number : ℕ) (r : LinkReason) → OwnsWhatItBrings t
+        → AreAllAlike (seen_by sees (map spaces_of components)) c d members (items_from t a)
+        (items_from t b) }
+    ensures fails { (components : List (List SectionTree)) (sees : Sees) (c j k d : ℕ)
+        (t : InstanceTy) (a b : ℕ) (members : List NamedMember) (number : ℕ) (r : LinkReason)
+        → OwnsWhatItBrings t
         → IsLinkedTo (seen_by sees (map spaces_of components)) c j t a d (exported_instance members)
         → IsLinkedTo (seen_by sees (map spaces_of components)) c k t b d (exported_instance members)
         → FailsAt (seen_by sees (map spaces_of components)) c d members (items_from t a) number r
@@ -85,18 +87,20 @@ pub fn items_are_alike()
 /// An export that serves one of two such imports serves the other; one that does not serve the one
 /// does not serve the other, for the same reason.
 pub fn what_serves_one_serves_both()
-    ensures served { (components : List (List SectionTree)) (sees : Sees) (c j k d : ℕ) (t : InstanceTy)
-        (a b : ℕ) (e : ExportDef) → OwnsWhatItBrings t
+    ensures served { (components : List (List SectionTree)) (sees : Sees) (c j k d : ℕ)
+        (t : InstanceTy) (a b : ℕ) (e : ExportDef) → OwnsWhatItBrings t
         → IsLinkedTo (seen_by sees (map spaces_of components)) c j t a d e
         → IsLinkedTo (seen_by sees (map spaces_of components)) c k t b d e
         → ServesExtern (seen_by sees (map spaces_of components)) c (instance (items_from t a)) d e
         → ServesExtern (seen_by sees (map spaces_of components)) c (instance (items_from t b)) d e }
-    ensures unserved { (components : List (List SectionTree)) (sees : Sees) (c j k d : ℕ) (t : InstanceTy)
-        (a b : ℕ) (e : ExportDef) (r : LinkReason) → OwnsWhatItBrings t
+    ensures unserved { (components : List (List SectionTree)) (sees : Sees) (c j k d : ℕ)
+        (t : InstanceTy) (a b : ℕ) (e : ExportDef) (r : LinkReason) → OwnsWhatItBrings t
         → IsLinkedTo (seen_by sees (map spaces_of components)) c j t a d e
         → IsLinkedTo (seen_by sees (map spaces_of components)) c k t b d e
-        → IsExternUnserved (seen_by sees (map spaces_of components)) c (instance (items_from t a)) d e r
-        → IsExternUnserved (seen_by sees (map spaces_of components)) c (instance (items_from t b)) d e r }
+        → IsExternUnserved (seen_by sees (map spaces_of components)) c (instance (items_from t a))
+        d e r
+        → IsExternUnserved (seen_by sees (map spaces_of components)) c (instance (items_from t b))
+        d e r }
 {
     items_are_alike();
 }
@@ -105,16 +109,17 @@ pub fn what_serves_one_serves_both()
 /// of one provider are served alike: where the one is served the other is, and where the one is not
 /// the other is not, for the same reason.
 pub fn imports_are_served_alike()
-    ensures served { (components : List (List SectionTree)) (sees : Sees) (c j k d : ℕ) (t : InstanceTy)
-        (a b : ℕ) (e : ExportDef) (x y : NamedExtern) → OwnsWhatItBrings t
+    ensures served { (components : List (List SectionTree)) (sees : Sees) (c j k d : ℕ)
+        (t : InstanceTy) (a b : ℕ) (e : ExportDef) (x y : NamedExtern) → OwnsWhatItBrings t
         → IsLinkedTo (seen_by sees (map spaces_of components)) c j t a d e
         → IsLinkedTo (seen_by sees (map spaces_of components)) c k t b d e
         → import_in (map spaces_of components) c j ≡ Some x
         → import_in (map spaces_of components) c k ≡ Some y
         → IsServed (seen_by sees (map spaces_of components)) (import_at c j x)
         → IsServed (seen_by sees (map spaces_of components)) (import_at c k y) }
-    ensures not_served { (components : List (List SectionTree)) (sees : Sees) (c j k d : ℕ) (t : InstanceTy)
-        (a b : ℕ) (e : ExportDef) (x y : NamedExtern) (r : LinkReason) → OwnsWhatItBrings t
+    ensures not_served { (components : List (List SectionTree)) (sees : Sees) (c j k d : ℕ)
+        (t : InstanceTy) (a b : ℕ) (e : ExportDef) (x y : NamedExtern) (r : LinkReason)
+        → OwnsWhatItBrings t
         → IsLinkedTo (seen_by sees (map spaces_of components)) c j t a d e
         → IsLinkedTo (seen_by sees (map spaces_of components)) c k t b d e
         → import_in (map spaces_of components) c j ≡ Some x

@@ -70,7 +70,8 @@ pub fn imported_functions_reach_lifts()
         → slice_get (map spaces_of components) c ≡ Some s → wanted_func s import item ≡ Some f
         → (t : Target) × (targets_of (map spaces_of components)
         (links_of (seen_by sees (map spaces_of components))) c import item ≡ Some t)
-        × (t.component < c) × IsSameFunc (seen_by sees (map spaces_of components)) c f t.component t.ty }
+        × (t.component < c)
+        × IsSameFunc (seen_by sees (map spaces_of components)) c f t.component t.ty }
 {
     imported_functions_are_served();
     functions_are_as_imported();

@@ -13,8 +13,8 @@ mod fault;
 pub mod laws;
 pub mod origin_laws;
 mod plan;
-pub mod sight_laws;
 mod sight;
+pub mod sight_laws;
 pub mod target_laws;
 
 pub use candidates::Candidate;

@@ -3,6 +3,7 @@
 ghost use Rattle.std.specs.Prelude.{◌≡◌, ℕ, List, [], Some};
 ghost use Rattle.cm_types.specs.Signatures.{NamedExtern};
 ghost use Rattle.cm_validate_model.specs.Spaces.{Spaces};
+ghost use Rattle.cm_match_model.specs.declared.component.Link.{Link};
 ghost use Rattle.cm_match_model.specs.declared.sight.Place.{Place};
 ghost use Rattle.cm_match_model.specs.Fitting.{NamedExport};
 ghost use Rattle.cm_match_model.specs.Fitting as fitting;
@@ -10,9 +11,8 @@ ghost use Rattle.cm_match_model.specs.Imports.{Sees, candidates, exports_before,
 ghost use Rattle.cm_match_model.specs.Imports.{seen_by, sees_all};
 ghost use Rattle.cm_match_model.specs.Sights.{Chosen, chosen_export, group_of, nothing_chosen};
 ghost use Rattle.cm_match_model.specs.Sights.{seen_before, sees_by};
-ghost use Rattle.cm_match_model.specs.declared.component.Link.{Link};
 
-/// With no groups and no chosen lines each import sees all exports before it, so that its
+/// With no groups and no chosen links each import sees all exports before it, so that its
 /// candidates are those that fit it by name.
 pub fn without_choices_all_is_seen()
     ensures sees { (c n : ℕ) (e : NamedExport) → sees_by [] nothing_chosen c n e ≡ sees_all c n e }
@@ -29,8 +29,8 @@ pub fn groups_see_what_stands_before()
         ≡ fitting.candidates (seen_before set places (group_of places c)) x.name }
 {}
 
-/// An import for which a link is chosen has the export of that link as its only candidate, where that
-/// is of a component before and fits.
+/// An import for which a link is chosen has the export of that link as its only candidate, where
+/// that is of a component before and fits.
 pub fn a_chosen_link_is_the_only_candidate()
     ensures { (set : List Spaces) (places : List Place) (chosen : Chosen) (c n : ℕ)
         (x : NamedExtern) (l : Link) → chosen c n ≡ Some l
