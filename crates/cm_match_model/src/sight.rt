@@ -1,6 +1,7 @@
 //! Which exports the imports of a set see.
 
 use crate::component::Link;
+use std::alloc::Global;
 
 /// The place of a component among groups: components in a row that count as one for those behind.
 #[derive(Clone, Copy, Debug, PartialEq, Eq)]
@@ -21,4 +22,20 @@ pub struct Choices {
     /// The links of imports, by component and number. An import with a link sees that export alone;
     /// one that has none, or is not there, sees what is seen before its group.
     pub links: Vec<Vec<Option<Link>>>,
+}
+
+impl Choices {
+    ghost use Rattle.std.specs.Prelude.{◌≡◌};
+    ghost use Rattle.cm_match_model.specs.Imports.{sees_all};
+    ghost use Rattle.cm_match_model.specs.Sights.{sees_in};
+
+    /// Nothing is chosen: each import sees all exports before its component. No memory is taken.
+    pub fn none(alloc: Global) -> Choices
+        ensures { sees_in result ≡ sees_all }
+    {
+        Choices {
+            places: Vec::new(alloc),
+            links: Vec::new(alloc),
+        }
+    }
 }
