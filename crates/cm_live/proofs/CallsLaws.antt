@@ -29,7 +29,7 @@ use Rattle.cm_layout.specs.Sizes.{size_of}
 use Rattle.cm_machine_links.specs.Planning.{IsPlanOf}
 use Rattle.cm_types.specs.declared.core_value.CoreKind.{CoreKind}
 use Rattle.cm_types.specs.declared.core_value.CoreKind.TheVariants as kind
-use Rattle.cm_validate_model.specs.Spaces.{Spaces}
+use Rattle.cm_match_model.specs.Imports.{LinkSet}
 use Rattle.cm_live.specs.Calls.{calls_after, calls_after_call, calls_after_move}
 use Rattle.cm_live.specs.Calls.{calls_after_return, number_of, opens, opens_by, place_by}
 use Rattle.cm_live.specs.Calls.{place_by_move}
@@ -63,7 +63,7 @@ placed s i args l n h =
     (size_of (tuple_of (types_of l results))) h
 
 -- two plans of one set have the same places
-pub same_places : (set : List Spaces) (p q : Plan) (i : ℕ) (m : Move) → IsPlanOf set p
+pub same_places : (set : LinkSet) (p q : Plan) (i : ℕ) (m : Move) → IsPlanOf set p
     → IsPlanOf set q → place_by_move p i m ≡ place_by_move q i m
 same_places set p q i (move.Write at bytes) h k = refl
 same_places set p q i (move.Grow pages) h k = refl

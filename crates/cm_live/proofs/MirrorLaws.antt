@@ -34,7 +34,7 @@ use Rattle.cm_machine.specs.cm_machine_laws.MemoryChanges.{ChangesAsTold, Change
 use Rattle.cm_machine.specs.cm_machine_laws.MemoryChanges.{ChangesAtEntry}
 use Rattle.cm_machine.specs.cm_machine_laws.MemoryChanges.{MemoryChangesByMovesAndValues, OthersStay}
 use Rattle.cm_machine.specs.cm_machine_laws.MemoryChanges.{SameMemories}
-use Rattle.cm_validate_model.specs.Spaces.{Spaces}
+use Rattle.cm_match_model.specs.Imports.{LinkSet}
 use Rattle.cm_machine.specs.cm_machine_laws.Closing.{TrapsAtACause}
 use Rattle.cm_machine.specs.cm_machine_laws.Doing.{after_move, after_post_return, body_return}
 use Rattle.cm_machine.specs.cm_machine_laws.Doing.{with_answer}
@@ -385,7 +385,7 @@ regions_told false plan s i m e g ds acting told l is k asks a none some =
     ∙ told_on plan s i m ds g.asking (rooms g) e acting is asks a
 
 -- who moved, how memories changed, and what was told
-pub move_told : (linked : List Spaces) (old : RunningSet) (g : GoingsOn) (m : Move) (e : Event)
+pub move_told : (linked : LinkSet) (old : RunningSet) (g : GoingsOn) (m : Move) (e : Event)
     (new : RunningSet) (mover : ℕ) (told : Written) → Moved old g m e new mover
     → (is_last e ≡ false → IsToldAfter m e (calls g) told.instance)
     → (is_last e ≡ true → told.regions.items ≡ [])
@@ -440,7 +440,7 @@ pub record AsksAfter (g : GoingsOn) (m : Move) (e : Event) (after : GoingsOn) : 
   pub rooms_are : is_last e ≡ false → rooms after ≡ rooms_after_move m e g.asking (rooms g)
 
 -- what is kept is so by a move, which is this call where it is one
-pub move_plays : (linked : List Spaces) (old : RunningSet) (g : GoingsOn) (m : Move) (e : Event)
+pub move_plays : (linked : LinkSet) (old : RunningSet) (g : GoingsOn) (m : Move) (e : Event)
     (new : RunningSet) (after : GoingsOn) (mover : ℕ) (c : Call) (places : ResultPlaces)
     → Moved old g m e new mover → new.links ≡ old.links
     → ((opens_by m e ≡ true → length (calls g) < MAX_FRAMES)
@@ -488,7 +488,7 @@ move_plays linked old g m e new after mover c places v links kept n z by wants k
     }
 
 -- and by the beginning of a root call
-pub begin_plays : (linked : List Spaces) (old : RunningSet) (g : GoingsOn) (i : ℕ) (e : Event)
+pub begin_plays : (linked : LinkSet) (old : RunningSet) (g : GoingsOn) (i : ℕ) (e : Event)
     (new : RunningSet) → Laws → GoesOnFrom old (begins i) e new → new.links ≡ old.links
     → IsPlayed linked old g → IsPlayed linked new g
 begin_plays linked old g i e new laws goes links k =
@@ -508,7 +508,7 @@ begin_plays linked old g i e new laws goes links k =
       below_calls = tt;
     }
 
-pub new_plays : (linked : List Spaces) (pages : List ℕ) (s : RunningSet) (g : GoingsOn)
+pub new_plays : (linked : LinkSet) (pages : List ℕ) (s : RunningSet) (g : GoingsOn)
     → IsNew linked pages s → calls g ≡ [] → g.asking ≡ None → rooms g ≡ [] → IsPlayed linked s g
 new_plays linked pages s g n c a r = record {
   plan = n.plan;
@@ -523,7 +523,7 @@ new_plays linked pages s g n c a r = record {
 }
 
 -- where there is only more room
-pub kept_plays : (linked : List Spaces) (s : RunningSet) (g after : GoingsOn)
+pub kept_plays : (linked : LinkSet) (s : RunningSet) (g after : GoingsOn)
     → after.calls ≡ g.calls → after.asking ≡ g.asking → rooms after ≡ rooms g
     → IsPlayed linked s g → IsPlayed linked s after
 kept_plays linked s g after c a r k = record {
@@ -540,7 +540,7 @@ kept_plays linked s g after c a r k = record {
 }
 
 -- a root call that begins or not
-pub begin_either : (linked : List Spaces) (old : RunningSet) (g : GoingsOn) (i : ℕ)
+pub begin_either : (linked : LinkSet) (old : RunningSet) (g : GoingsOn) (i : ℕ)
     (r : Result Event Misuse) (new : RunningSet) → Laws
     → IfOk r (λ e. GoesOnFrom old (begins i) e new)
     → OnErr r (new ≡ old) → new.links ≡ old.links → IsPlayed linked old g

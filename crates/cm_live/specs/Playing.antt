@@ -1,6 +1,6 @@
 -- What holds of a set that is played, and of what is kept of it from moves and events.
 use Rattle.std.specs.Prelude.{◌≡◌, ℕ, List, [], ◌∷◌, None}
-use Rattle.cm_validate_model.specs.Spaces.{Spaces}
+use Rattle.cm_match_model.specs.Imports.{LinkSet}
 use Rattle.cm_machine_links.specs.Planned.{ArePlanned}
 use Rattle.cm_machine_links.specs.Planning.{IsPlanOf}
 use Rattle.cm_machine.specs.cm_machine_model.History.{IsHistoryOf, Occurrence}
@@ -30,7 +30,7 @@ calls_of (tidying x asked back more ∷ ds) =
 calls_of (destroys dropper i ∷ ds) = record { caller = dropper; result = None } ∷ calls_of ds
 
 -- The places of results are read from links that stand for the plan of what was linked.
-pub record ArePlacesOf (linked : List Spaces) (r : ResultPlaces) : Type 0 where
+pub record ArePlacesOf (linked : LinkSet) (r : ResultPlaces) : Type 0 where
   pub plan : Plan
   pub of_linked : IsPlanOf linked plan
   pub planned : ArePlanned plan r.links
@@ -38,7 +38,7 @@ pub record ArePlacesOf (linked : List Spaces) (r : ResultPlaces) : Type 0 where
 -- A set of what was linked has a history, and what is kept is so by it: who called what goes on,
 -- and where it wants results; what an allocator is asked for, and the rooms that it answered. What
 -- goes on below the latest has called.
-pub record IsPlayed (linked : List Spaces) (s : RunningSet) (g : GoingsOn) : Type 0 where
+pub record IsPlayed (linked : LinkSet) (s : RunningSet) (g : GoingsOn) : Type 0 where
   pub plan : Plan
   pub of_linked : IsPlanOf linked plan
   pub pages : List ℕ

@@ -1,4 +1,4 @@
-use Rattle.std.proofs.Common.{◌∙◌, ap}
+use Rattle.std.proofs.Common.{◌∙◌, [], ap}
 use Rattle.cm_match_model.specs.Sights.{link_in, sees_by}
 use Rattle.cm_match_model.proofs.sight.Choices.none.Goals as goal
 
