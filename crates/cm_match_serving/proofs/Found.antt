@@ -73,6 +73,18 @@ module _ (cs : List Checked) (c : ℕ) (x : Checked) (there : slice_get cs c ≡
       defs None = refl
       defs (Some e) = refl
 
+  -- the name of an export
+  pub name_read : (i : ℕ) (es : List ExportEntry) (r : Option (Bor ExportEntry)) → (spaces_in x).exports ≡ map (export_def (types_in x) (funcs_in x)) es → IsItemAt es i r
+      → option_map (λ (e : Bor ExportEntry). e.now.name.now) r ≡ option_map (λ (e : NamedExport). e.name) (option_and_then (λ s. slice_get s.exports i) (slice_get (spaces_of_all cs) c))
+  name_read i es r are h =
+      got_by (λ (e : ExportEntry). e.name.now) es i r h
+      ∙ names (slice_get es i)
+      ∙ ap (option_map (λ (e : NamedExport). e.name)) (sym (slice_get-map (export_def (types_in x) (funcs_in x)) es i) ∙ ap (λ ys. slice_get ys i) (sym are) ∙ sym (ap (option_and_then (λ s. slice_get s.exports i)) space_there))
+    where
+      names : (o : Option ExportEntry) → option_map (λ (e : ExportEntry). e.name.now) o ≡ option_map (λ (e : NamedExport). e.name) (option_map (export_def (types_in x) (funcs_in x)) o)
+      names None = refl
+      names (Some e) = refl
+
   -- where a resource comes from
   pub source_told : (n : ℕ) (r : Option Resource) → option_map resource_def r ≡ slice_get (spaces_in x).resources n → source_of (spaces_of_all cs) (resource_of c n) ≡ option_map (source_by (spaces_of_all cs) c) (option_map resource_def r)
   source_told n r is =

@@ -48,6 +48,12 @@ each_next f xs n x h =
     ap (each_from f 0) (take_one xs n x h) ∙ each_last f 0 (take n xs) x
     ∙ ap (λ k. each_from f 0 (take n xs) ++ f k x ∷ []) (taken_length xs n x h)
 
+pub each_next_of : {A B C : Type 0} (f : ℕ → B → C) (g : A → B) (xs : List A) (n : ℕ) (x : A) → slice_get xs n ≡ Some x → each_from f 0 (map g (take (n + 1) xs)) ≡ each_from f 0 (map g (take n xs)) ++ f n (g x) ∷ []
+each_next_of f g xs n x h =
+    let places : 0 + length (map g (take n xs)) ≡ n = ap (λ k. 0 + k) (map_length g (take n xs)) ∙ taken_length xs n x h in
+    ap (λ ys. each_from f 0 (map g ys)) (take_one xs n x h) ∙ ap (each_from f 0) (mapped_last g (take n xs) x) ∙ each_last f 0 (map g (take n xs)) (g x)
+    ∙ ap (λ k. each_from f 0 (map g (take n xs)) ++ f k (g x) ∷ []) places
+
 pub each_at : {A B : Type 0} (f : ℕ → A → B) (n : ℕ) (xs : List A) (k : ℕ) → slice_get (each_from f n xs) k ≡ option_map (f (n + k)) (slice_get xs k)
 each_at f n [] zero = refl
 each_at f n [] (suc k) = refl

@@ -7,20 +7,17 @@ ghost use Rattle.cm_match_model.specs.Sights.{chosen_export, link_in};
 ghost use Rattle.cm_match_serving.specs.Sets.{spaces_of_all};
 
 use crate::exports::Exports;
-use cm_match_model::{Candidate, Link};
+use cm_match_model::{Candidate, Choices, Link};
 use cm_types::ExternName;
 use cm_validate_spaces::{Checked, ExportEntry};
 use std::alloc::{AllocError, Global};
 
 /// The link that is chosen for an import of a component, if one is.
-pub(crate) fn chosen_link(
-    links: &[Vec<Option<Link>>],
-    component: usize,
-    import: usize,
-) -> Option<Link>
-    ensures { result ≡ link_in links.now component import }
+pub(crate) fn chosen_link(choices: &Choices, component: usize, import: usize) -> Option<Link>
+    ensures { result ≡ link_in choices.now.links.items component import }
 {
-    *links.get(component)?.get(import)?
+    let row = choices.links.get(component)?;
+    *row.get(import)?
 }
 
 /// The export of a link, where it is of a component before this one.
@@ -51,9 +48,10 @@ pub(crate) fn chosen_candidate(
     ensures { IfOk result (λ c. c ≡ only
         (candidates (chosen_export (spaces_of_all components.now) importer link) wanted.now)) }
 {
+    let Some(entry) = chosen_export(components, importer, link) else {
+        return Ok(Candidate::None);
+    };
     let mut exports = Exports::new(alloc);
-    if let Some(entry) = chosen_export(components, importer, link) {
-        exports.add(entry.name, link.component as usize, link.export)?;
-    }
+    exports.add(entry.name, link.component as usize, link.export)?;
     exports.candidate(alloc, wanted)
 }

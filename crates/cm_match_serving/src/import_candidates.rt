@@ -1,6 +1,7 @@
 //! The candidates of each import, by what it sees and by its name.
 
-ghost use Rattle.std.specs.Prelude.{◌≡◌, ◌≤◌, ◌++◌, IfOk, List, OnOk, length, map};
+ghost use Rattle.std.specs.Prelude.{◌≡◌, ◌<◌, ◌≤◌, ◌+◌, ◌++◌, IfOk, List, OnOk, length, map};
+ghost use Rattle.std.specs.Prelude.{if◌then◌else◌};
 ghost use Rattle.cm_types.specs.Signatures.{NamedExtern};
 ghost use Rattle.cm_types.specs.Types.{FuncTy, Ty};
 ghost use Rattle.cm_types_arena.specs.Externs.{extern_of};
@@ -18,7 +19,7 @@ use crate::exports::Exports;
 use cm_match_model::sight_laws::{
     a_chosen_link_is_the_only_candidate, groups_see_what_stands_before,
 };
-use cm_match_model::{Candidate, Choices, Place};
+use cm_match_model::{Candidate, Choices};
 use cm_types::ExternName;
 use cm_types_arena::Extern;
 use cm_validate_spaces::{Checked, ExportEntry};
@@ -42,7 +43,7 @@ fn import_candidate(
 {
     groups_see_what_stands_before();
     a_chosen_link_is_the_only_candidate();
-    match chosen_link(&choices.links, importer, import) {
+    match chosen_link(choices, importer, import) {
         Some(link) => chosen_candidate(alloc, components, importer, link, wanted),
         None => exports.candidate(alloc, wanted),
     }
@@ -97,45 +98,88 @@ fn add_exports(
 }
 
 /// Whether a component begins a group.
-fn begins(places: &[Place], component: usize) -> bool
-    ensures { result ≡ begins_at places.now component }
+fn begins(choices: &Choices, component: usize) -> bool
+    ensures { result ≡ begins_at choices.now.places.items component }
 {
-    match places.get(component) {
+    match choices.places.get(component) {
         Some(place) => place.begins,
         None => true,
     }
 }
 
 /// Whether a component is seen from behind its group.
-fn is_seen(places: &[Place], component: usize) -> bool
-    ensures { result ≡ is_seen_at places.now component }
+fn is_seen(choices: &Choices, component: usize) -> bool
+    ensures { result ≡ is_seen_at choices.now.places.items component }
 {
-    match places.get(component) {
+    match choices.places.get(component) {
         Some(place) => place.is_seen,
         None => true,
     }
 }
 
-/// Adds the exports of those that are seen of the components from one to before another.
+/// Adds the exports of a component, where they are seen, to those that are seen before it.
+fn add_if_seen(
+    exports: &mut Exports,
+    components: &[Checked<'_>],
+    choices: &Choices,
+    at: usize,
+) -> Result<(), AllocError>
+    requires { at < length components.now }
+    ensures { OnOk result (HasExports exports.old
+        (seen_before (spaces_of_all components.now) choices.now.places.items at)
+        → HasExports exports.new
+        (seen_before (spaces_of_all components.now) choices.now.places.items (at + 1))) }
+{
+    if !is_seen(choices, at) {
+        return Ok(());
+    }
+    add_exports(exports, at, components[at].exports())
+}
+
+/// Adds the exports that are seen of the components from one to before another.
 fn add_seen(
     exports: &mut Exports,
     components: &[Checked<'_>],
-    places: &[Place],
+    choices: &Choices,
     from: usize,
     to: usize,
 ) -> Result<(), AllocError>
     requires ordered { from ≤ to }
     requires there { to ≤ length components.now }
     ensures { OnOk result (HasExports exports.old
-        (seen_before (spaces_of_all components.now) places.now from)
-        → HasExports exports.new (seen_before (spaces_of_all components.now) places.now to)) }
+        (seen_before (spaces_of_all components.now) choices.now.places.items from)
+        → HasExports exports.new
+        (seen_before (spaces_of_all components.now) choices.now.places.items to)) }
 {
     for at in from..to {
-        if is_seen(places, at) {
-            add_exports(exports, at, components[at].exports())?;
-        }
+        add_if_seen(exports, components, choices, at)?;
     }
     Ok(())
+}
+
+/// Adds the exports that are seen of the group before, where a component begins one. The first
+/// component of its group is the result.
+fn see_group(
+    exports: &mut Exports,
+    components: &[Checked<'_>],
+    choices: &Choices,
+    first: usize,
+    at: usize,
+) -> Result<usize, AllocError>
+    requires ordered { first ≤ at }
+    requires there { at ≤ length components.now }
+    ensures group { IfOk result (λ n. n
+        ≡ if begins_at choices.now.places.items at then at else first) }
+    ensures seen { IfOk result (λ n. HasExports exports.old
+        (seen_before (spaces_of_all components.now) choices.now.places.items first)
+        → HasExports exports.new
+        (seen_before (spaces_of_all components.now) choices.now.places.items n)) }
+{
+    if !begins(choices, at) {
+        return Ok(first);
+    }
+    add_seen(exports, components, choices, first, at)?;
+    Ok(at)
 }
 
 /// The candidates of each import of each component of a set: of what the import sees by these
@@ -154,13 +198,11 @@ pub fn candidates_of(
     let mut rows = Vec::with_capacity(alloc, components.len())?;
     let mut first = 0;
     for (at, component) in components.iter().enumerate() {
-        if begins(&choices.places, at) {
-            add_seen(&mut exports, components, &choices.places, first, at)?;
-            first = at;
-        }
+        let group = see_group(&mut exports, components, choices, first, at)?;
         let imports = component.imports();
         let row = import_candidates(alloc, components, choices, &exports, at, imports)?;
         rows.push(row)?;
+        first = group;
     }
     Ok(rows)
 }
