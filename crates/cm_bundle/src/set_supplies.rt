@@ -69,7 +69,8 @@ fn export_name<'a>(linked: &'a Linked<'_>, component: usize, export: usize) -> O
 
 /// What the import of a line is given.
 fn argument_of<'a>(linked: &'a Linked<'_>, line: &PlanLine) -> Option<Supply<'a>>
-    ensures argument { option_map supply_tree result ≡ argument_of (set_in linked.now).spaces line.now }
+    ensures argument { option_map supply_tree result
+        ≡ argument_of (set_in linked.now).spaces line.now }
     ensures texts { IfSome result (λ x. HasTexts (supply_tree x)) }
 {
     let import = import_at(linked, line.importer, line.import)?;

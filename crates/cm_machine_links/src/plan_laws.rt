@@ -17,11 +17,11 @@ use cm_match_model::target_laws::targets_are_written;
 use cm_validate_model::function_laws::{functions_come_from_items, what_functions_name_is_there};
 use cm_validate_model::resource_laws::resources_are_as_defined;
 
-/// The plan of a set of valid components, whatever their imports see, is as these write it: the options of each side of a link
-/// are those of its own canonical definition, in UTF-8 where no encoding is written; what is called
-/// is the lift that the import comes to, and behind it what that lift names to tidy up; handles are
-/// of the resource that the canonical definition names; and the destructor is the one that the type
-/// definition of the resource names.
+/// The plan of a set of valid components is as these write it, whatever their imports see: the
+/// options of each side of a link are those of its own canonical definition, in UTF-8 where no
+/// encoding is written; what is called is the lift that the import comes to, and behind it what
+/// that lift names to tidy up; handles are of the resource that the canonical definition names; and
+/// the destructor is the one that the type definition of the resource names.
 pub fn plans_are_written()
     ensures { (components : List (List SectionTree)) (sees : Sees) (p : Plan)
         → AllByRecursion IsValid components
