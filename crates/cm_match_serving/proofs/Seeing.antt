@@ -23,7 +23,7 @@ use Rattle.cm_match_serving.proofs.Rows.{before_next}
 
 -- ---- links that are chosen
 
-nothing_at : {A : Type 0} (n : ℕ) → slice_get {A = A} [] n ≡ None
+nothing_at : {A : Type 0} (n : ℕ) → ◌≡◌ {A = Option A} (slice_get [] n) None
 nothing_at zero = refl
 nothing_at (suc n) = refl
 

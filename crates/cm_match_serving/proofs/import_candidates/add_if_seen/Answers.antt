@@ -19,7 +19,7 @@ returns-then-not-is_seen c = λ has.
     let n = c.args.at in
     let x = item_there cs n c.requires in
     let there : slice_get set n ≡ Some (spaces_in x.0) = set_at cs n ∙ ap (option_map spaces_in) x.1 in
-    let hidden : is_seen_at places n ≡ false = sym c.if-not-is_seen.ensures in
+    let hidden : is_seen_at places n ≡ false = sym c.is_seen.ensures ∙ c.if-not-is_seen.true in
     subst (HasExports c.args.exports.now) (sym (hidden_next set places n (spaces_in x.0) there hidden)) has
 
 pub returns : goal.returns
@@ -30,6 +30,6 @@ returns c =
     let n = c.args.at in
     let x = c.index-components-at.result in
     let there : slice_get set n ≡ Some (spaces_in x) = set_at cs n ∙ ap (option_map spaces_in) (read_at cs n x c.requires c.index-components-at.is) in
-    let seen : is_seen_at places n ≡ true = sym c.if-not-is_seen.ensures in
+    let seen : is_seen_at places n ≡ true = sym c.is_seen.ensures ∙ c.if-not-is_seen.false in
     let next = seen_next set places n (spaces_in x) there seen ∙ ap (λ es. seen_before set places n ++ exports_from n 0 es) c.exports.ensures.are in
     on_ok_weaker c.add_exports.result (λ h has. subst (HasExports c.add_exports.new.exports) (sym next) (h (types_in x) (funcs_in x) (seen_before set places n) has)) c.add_exports.ensures
