@@ -28,9 +28,9 @@ class Played:
     def folder(self):
         return Folder(dict(zip(self.names, self.files)))
 
-    def start(self, folder, out, **others):
+    def start(self, folder, out, *options, **others):
         """Starts to play the set."""
-        words = ["live", "--pages", self.pages, *self.names]
+        words = ["live", "--pages", self.pages, *options, *self.names]
         return folder.start("hux", words, out, **others)
 
     def serve(self, folder, given, *options, **others):

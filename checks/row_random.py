@@ -37,10 +37,11 @@ def junk_line(played, seed, count):
 
 
 class Talk:
-    """A run of `hux live` that is told a line at a time."""
+    """A run of `hux live` that is told a line at a time. It is quiet about traps: nobody reads its
+    standard error meanwhile, and where that is full the program waits."""
 
     def __init__(self, played, folder):
-        self.made = played.start(folder, subprocess.PIPE, stdin=subprocess.PIPE)
+        self.made = played.start(folder, subprocess.PIPE, "-q", stdin=subprocess.PIPE)
         while self.made.stdout.readline() not in (b"ready\n", b""):
             pass
 
