@@ -11,7 +11,7 @@ complete -c hux -n __fish_use_subcommand -f -a call -d 'Links components, calls 
 complete -c hux -n __fish_use_subcommand -f -a live -d 'Links components and plays them line by line: an engine makes the moves'
 complete -c hux -n __fish_use_subcommand -f -a stub -d 'Writes a component that stands in for a host'
 complete -c hux -n __fish_use_subcommand -f -a explain -d 'Says what a trap, a misuse or a reason means, its usual cause, and what to do'
-complete -c hux -n __fish_use_subcommand -f -a diff -d 'Says what a component or world lacks or has changed for one that uses another'
+complete -c hux -n __fish_use_subcommand -f -a diff -d 'Says what a component or world in place of another breaks, and for whom'
 complete -c hux -n __fish_use_subcommand -f -a help -d 'Print this message or the help of the given subcommand(s)'
 complete -c hux -n __fish_use_subcommand -s None -l json -d 'Prints a JSON object a line'
 complete -c hux -n __fish_use_subcommand -s q -l quiet -d 'Prints nothing but what is wrong'

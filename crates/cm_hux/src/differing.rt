@@ -1,15 +1,14 @@
-//! What a component or a world lacks or has changed for those that use another.
+//! What a component or a world in place of another breaks for users and hosts.
 
 use crate::conforming::signature_of;
-use cm_hux_diff::{Change, Difference, differences};
+use cm_hux_diff::{Change, Difference, Effect, differences, replaces};
 use cm_hux_play::files::{
-    Ending, Escaped, Fault, Files, Object, ToolFault, Unfit, UnfitReason, conform_help, kept,
+    Ending, Escaped, Fault, Files, Object, ToValue, ToolFault, Unfit, UnfitReason, Value, kept,
     load_bytes, of_file, read_bytes, tell, text_of, wit_help, world_help, world_of,
 };
 use cm_hux_words::{DiffWords, Habits};
 use cm_tool_show::show;
 use cm_types_arena::Signature;
-use cm_wit_conforms::{ConformReason, conforms};
 use std::alloc::{AllocError, Global};
 use std::io::Write;
 
@@ -80,7 +79,7 @@ impl<'a> Read<'a> {
     }
 }
 
-/// Prints what differs, a line each, and `ok` where it breaks nothing for who uses the old one.
+/// Prints what differs, a line each, and for whom it breaks something, and `ok` where for nobody.
 pub(crate) fn run_diff<'a, F: Files, O: Write>(
     alloc: Global,
     words: &DiffWords<'a>,
@@ -193,8 +192,7 @@ impl Telling {
         self.tell_texts(both, &old, &new, out)
     }
 
-    /// Prints what differs between the texts that show the two. Where no text differs, the types
-    /// are compared too.
+    /// Prints what differs between the two, which these texts show.
     fn tell_texts<'a, O: Write>(
         self,
         both: &Both<'a>,
@@ -202,28 +200,24 @@ impl Telling {
         new: &str,
         out: &mut O,
     ) -> Result<bool, Fault<'a>> {
-        let found = differences(self.alloc, old, new)?;
-        let is_broken = self.tell_differences(&found, out)?;
-        if is_broken || found.iter().any(|it| it.is_renamed()) {
-            return Ok(is_broken);
-        }
-        Ok(self.tell_unfit(&both.old, &both.new, out)?)
+        let broken = replaces(self.alloc, &both.old, &both.new)?;
+        let found = differences(self.alloc, old, new, &broken)?;
+        self.tell_differences(&found, out)?;
+        Ok(broken.breaks())
     }
 
-    /// Prints each difference, or only what is broken, and answers whether something is.
+    /// Prints each difference, or only what is broken.
     fn tell_differences<O: Write>(
         self,
         found: &[Difference<'_>],
         out: &mut O,
-    ) -> Result<bool, Fault<'static>> {
-        let mut is_broken = false;
+    ) -> Result<(), Fault<'static>> {
         for difference in found {
-            is_broken = is_broken || !difference.is_harmless;
-            if !(self.habits.quiet && difference.is_harmless) {
+            if !self.habits.quiet || difference.effect.breaks() {
                 self.tell_difference(difference, out)?;
             }
         }
-        Ok(is_broken)
+        Ok(())
     }
 
     fn tell_difference<O: Write>(
@@ -236,29 +230,6 @@ impl Telling {
         }
         writeln!(out, "{difference}")?;
         Ok(())
-    }
-
-    /// Whether the new signature does not conform to the old one, where no difference says so: it
-    /// prints that then. Interfaces of other versions are not looked at so.
-    fn tell_unfit<O: Write>(
-        self,
-        old: &Signature,
-        new: &Signature,
-        out: &mut O,
-    ) -> Result<bool, Fault<'static>> {
-        let fault = match conforms(self.alloc, new, old) {
-            Ok(()) => return Ok(false),
-            Err(fault) if fault.reason == ConformReason::Memory => return Err(Fault::Memory),
-            Err(fault) => fault,
-        };
-        let tail = kept(self.alloc, conform_help(self.alloc, new, old, fault));
-        if self.habits.json {
-            let object = Object::new(self.alloc).with_shown("change", &fault)?;
-            tell(object.with("harmless", false)?, out)?;
-        } else {
-            writeln!(out, "{fault}{tail}")?;
-        }
-        Ok(true)
     }
 
     /// Prints `ok` where nothing is broken.
@@ -277,12 +248,31 @@ impl Telling {
 fn difference_object(alloc: Global, difference: &Difference<'_>) -> Result<Object, AllocError> {
     let object = Object::new(alloc).with_shown("side", &difference.side)?;
     let object = object.with("name", difference.name)?;
-    let object = object.with("harmless", difference.is_harmless)?;
+    let object = object.with("harmless", difference.effect == Effect::Harmless)?;
+    let object = object.with_shown("effect", &difference.effect)?;
     let object = match difference.item {
         Some(item) => object.with("item", item)?,
         None => object,
     };
-    match &difference.change {
+    let object = with_users(alloc, object, &difference.used_by)?;
+    with_change(object, &difference.change)
+}
+
+/// With the items that differ by it alone, where there are any.
+fn with_users(alloc: Global, object: Object, users: &[&str]) -> Result<Object, AllocError> {
+    if users.is_empty() {
+        return Ok(object);
+    }
+    let mut names = Vec::with_capacity(alloc, users.len())?;
+    for user in users {
+        names.push((*user).to_value(alloc)?)?;
+    }
+    object.with("used_by", Value::Array(names))
+}
+
+/// With how it differs.
+fn with_change(object: Object, change: &Change<'_>) -> Result<Object, AllocError> {
+    match change {
         Change::Gone { other } => with_other(object.with("change", "gone")?, *other),
         Change::New { other } => with_other(object.with("change", "new")?, *other),
         Change::Changed { was, is } => {
@@ -290,6 +280,8 @@ fn difference_object(alloc: Global, difference: &Difference<'_>) -> Result<Objec
             object.with("is", is.as_str())
         }
         Change::Renamed { is } => object.with("change", "renamed")?.with("is", *is),
+        Change::Several => object.with("change", "several"),
+        Change::Exported => object.with("change", "exported"),
     }
 }
 

@@ -89,7 +89,7 @@ impl Call<'_> {
         let mut resumed = Resumed::new(alloc, drives.caller(), json, out);
         let ended = drives.play(set, names, &mut resumed, err);
         match ended {
-            Ok(driven) if driven.is_answered => {
+            Ok(driven) if driven.is_ended => {
                 tell(alloc, set, func, &mut resumed, &results)?;
                 Ok(driven.ending)
             }

@@ -3,25 +3,16 @@
 use cm_hux_drive::files::{Ending, Fault, LIMIT, Stop, ToolFault};
 use cm_hux_drive::lines::Drive;
 use cm_hux_drive::{
-    Checks, HuxScript, Misuse, Moment, Played, Script, Seat, Set, Watcher, Watching, drive,
-    seats_of,
+    Checks, DriveEnd, HuxScript, Misuse, Moment, Printer, Script, Seat, Set, Watching, seats_of,
 };
 use std::alloc::Global;
 use std::io::Write;
-
-/// How drives ended.
-#[derive(Clone, Copy, Drop)]
-pub(crate) struct DrivesEnd {
-    pub(crate) ending: Ending,
-    /// Whether the last one, the call, has been answered.
-    pub(crate) is_answered: bool,
-}
 
 /// The drives of a script for some files, and behind them that of a caller.
 #[derive(Drop)]
 pub(crate) struct Drives {
     /// The guests, the caller last.
-    seats: Vec<Seat>,
+    seats: Vec<Option<Seat>>,
     /// The roots, the caller last.
     begins: Vec<u32>,
     /// How many files there are.
@@ -48,7 +39,7 @@ impl Drives {
         are_of_files(&begins, files)?;
         let caller = u32::try_from(files).unwrap_or(u32::MAX);
         let mut seats = seats_of(alloc, moves)?;
-        seats.push(guest)?;
+        seats.push(Some(guest))?;
         begins.push(caller)?;
         Ok(Drives {
             seats,
@@ -64,15 +55,15 @@ impl Drives {
         self.caller
     }
 
-    /// Plays the drives up to one that does not end, makes the checks of the script, and tells a
-    /// watcher.
-    pub(crate) fn play<'w, W: Watcher, E: Write>(
+    /// Plays the drives up to one that does not end, makes the checks of the script, and prints
+    /// them. The end tells whether the last one, the call, has been answered.
+    pub(crate) fn play<'w, P: Printer, E: Write>(
         self,
         set: &mut Set,
         names: Vec<String>,
-        watcher: &'w mut W,
+        printer: &'w mut P,
         err: &'w mut E,
-    ) -> Result<DrivesEnd, Stop> {
+    ) -> Result<DriveEnd, Stop> {
         let Drives {
             mut seats,
             begins,
@@ -80,12 +71,7 @@ impl Drives {
             caller: _,
             checks,
         } = self;
-        let mut watching = Watching {
-            names,
-            checks,
-            watcher,
-            err,
-        };
+        let mut watching = Watching::new(names, checks, printer, err);
         play_on(set, &mut seats, begins, files, &mut watching)
     }
 }
@@ -107,37 +93,41 @@ fn are_of_files(begins: &[u32], components: usize) -> Result<(), Fault<'static>>
 }
 
 /// Plays drives of these roots, up to one that does not end.
-fn play_on<W: Watcher, E: Write>(
+fn play_on<P: Printer, E: Write>(
     set: &mut Set,
-    seats: &mut Vec<Seat>,
+    seats: &mut Vec<Option<Seat>>,
     begins: Vec<u32>,
     components: usize,
-    watching: &mut Watching<'_, W, E>,
-) -> Result<DrivesEnd, Stop> {
+    watching: &mut Watching<'_, P, E>,
+) -> Result<DriveEnd, Stop> {
     watching.check(Moment::Start, set, None)?;
     for (index, root) in begins.into_iter().enumerate() {
-        let drive_of = Drive {
+        let drive = Drive {
             index,
             root,
             components,
         };
-        let played = drive(set, seats, root, LIMIT, watching)?;
-        let ending = watching.end(set, &played, drive_of)?;
-        if !matches!(played, Played::Ended) {
-            return finish(watching, ending, false);
+        let end = watching.drive(set, seats, drive)?;
+        if !end.is_ended {
+            return finish(watching, end);
         }
     }
-    finish(watching, Ending::Done, true)
+    finish(
+        watching,
+        DriveEnd {
+            ending: Ending::Done,
+            is_ended: true,
+        },
+    )
 }
 
 /// Ends the play, and prints which checks were not made.
-fn finish<W: Watcher, E: Write>(
-    watching: &mut Watching<'_, W, E>,
-    ending: Ending,
-    is_answered: bool,
-) -> Result<DrivesEnd, Stop> {
-    Ok(DrivesEnd {
-        ending: watching.finish(ending)?,
-        is_answered,
+fn finish<P: Printer, E: Write>(
+    watching: &mut Watching<'_, P, E>,
+    end: DriveEnd,
+) -> Result<DriveEnd, Stop> {
+    Ok(DriveEnd {
+        ending: watching.finish(end.ending)?,
+        is_ended: end.is_ended,
     })
 }

@@ -1,7 +1,7 @@
 //! What a call is answered with.
 
 use cm_hux_drive::files::{Escaped, Fault, Object, Stop, tell, tell_fault, told};
-use cm_hux_drive::{Event, Move, Set, Watcher};
+use cm_hux_drive::{Event, Move, Printer, Set};
 use cm_machine_model::Flat;
 use std::alloc::Global;
 use std::io::Write;
@@ -67,7 +67,7 @@ impl<'o, O: Write> Resumed<'o, O> {
     }
 }
 
-impl<O: Write> Watcher for Resumed<'_, O> {
+impl<O: Write> Printer for Resumed<'_, O> {
     fn begin(&mut self, _set: &Set, _root: u32, _event: &Event) -> Result<(), Stop> {
         Ok(())
     }

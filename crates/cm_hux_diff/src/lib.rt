@@ -1,15 +1,27 @@
-//! Compares two components or worlds: what the second lacks or has changed for users of the first.
+//! Tells what a component or a world in place of another breaks, and for whom.
 //!
-//! Both are given by the text that shows a signature (`cm_tool_show::show`): a line for each import
-//! and export, and one for each item of an instance.
+//! The definitions say what is wanted of whom, what is offered for it, and when it serves.
 #![tactic(auto)]
 
-mod comparing;
+mod bound;
+mod breaking;
 mod difference;
 mod facing;
+mod held;
+mod judging;
+mod links;
 mod listed;
+mod names;
 mod offers;
 mod pairs;
+mod parts;
+mod replacing;
+mod telling;
+mod uses;
+mod walk;
 
-pub use comparing::differences;
-pub use difference::{Change, Difference, Side};
+pub use breaking::{Break, BreakReason};
+pub use difference::{Change, Difference, Effect, Side};
+pub use facing::Face;
+pub use replacing::{Broken, replaces};
+pub use telling::differences;

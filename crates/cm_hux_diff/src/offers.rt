@@ -1,154 +1,148 @@
-//! What is there under a name, or under a compatible version of it.
+//! Imports or exports by their names.
 
-use crate::listed::Block;
-use semver::Version;
+ghost use Rattle.std.specs.Prelude.{◌≡◌, ◌++◌, ◌∷◌, [], IfOk, List, OnOk, filter};
+ghost use Rattle.cm_types_arena.specs.declared.types.Types.{Types};
+ghost use Rattle.cm_match_model.specs.Fitting.{NamedExport, candidates, named_export, only};
+ghost use Rattle.cm_match_model.specs.Ranges.{exports_named};
+ghost use Rattle.cm_match_serving.specs.ExportTables.{HasExports};
+ghost use Rattle.cm_wit_conforms.specs.Places.{extern_names, place_in};
+ghost use Rattle.cm_hux_diff.specs.Facing.{best_face, face_of, found, greatest, host_face, is_one};
+ghost use Rattle.cm_hux_diff.specs.Facing.{one_or_several};
+
+use crate::facing::Face;
+use crate::names::names_of;
+use cm_match_model::Candidate;
+use cm_match_serving::Exports;
+use cm_types::ExternName;
+use cm_types_arena::Externs;
 use std::alloc::{AllocError, Global};
-use std::cmp::Ordering;
-use std::collections::BTreeMap;
 
-/// What is there for a name.
-#[derive(Clone, Copy)]
-pub(crate) enum Found {
-    /// What has the name, by its place.
-    Exact(usize),
-    /// What has its interface in a compatible version, the greatest one.
-    Compatible(usize),
-    /// What has its interface in another version alone.
-    Other(usize),
-    Nothing,
+/// Imports or exports by their names, and which of them fit a name.
+#[derive(Drop)]
+pub(crate) struct Offers {
+    pub(crate) names: Vec<ExternName>,
+    table: Exports,
+    /// Of compatible versions the greatest alone.
+    kept: Exports,
+    ghost told: { ∥ HasExports table (exports_named 0 names.items) ∥₁ },
+    ghost keeps: { ∥ HasExports kept (greatest names.items) ∥₁ },
 }
 
-/// The versions of an interface of which each fits what asks for it or for an earlier one: its
-/// name, whether they are pre-releases of one release, and the numbers that they share.
-type Series<'a> = (&'a str, bool, (u64, u64, u64));
+fn table_of(alloc: Global, names: &[ExternName]) -> Result<Exports, AllocError>
+    ensures { IfOk result (λ table. HasExports table (exports_named 0 names.now)) }
+{
+    let mut table = Exports::new(alloc);
+    for (place, name) in names.iter().enumerate() {
+        table.add(name, 0, place)?;
+    }
+    Ok(table)
+}
 
-/// What has the greatest version of a series: its place.
-#[derive(Drop)]
-struct Greatest {
+/// Adds a name at a place, where nothing else of a table that has it fits it.
+fn add_greatest(
+    alloc: Global,
+    table: &Exports,
+    kept: &mut Exports,
     place: usize,
-    version: Version,
-}
-
-/// Imports or exports by their names.
-#[derive(Drop)]
-pub(crate) struct Offers<'a> {
-    names: BTreeMap<&'a str, usize>,
-    /// The first of each interface, by its name without a version.
-    interfaces: BTreeMap<&'a str, usize>,
-    series: BTreeMap<Series<'a>, Greatest>,
-}
-
-impl<'a> Offers<'a> {
-    /// These.
-    pub(crate) fn new(alloc: Global, blocks: &[Block<'a>]) -> Result<Offers<'a>, AllocError> {
-        let mut offers = Offers {
-            names: BTreeMap::new(alloc),
-            interfaces: BTreeMap::new(alloc),
-            series: BTreeMap::new(alloc),
-        };
-        for (place, block) in blocks.iter().enumerate() {
-            offers.add(alloc, block.name, place)?;
-        }
-        Ok(offers)
-    }
-
-    fn add(&mut self, alloc: Global, name: &'a str, place: usize) -> Result<(), AllocError> {
-        self.names.insert(name, place)?;
-        let Some((interface, version)) = versioned(alloc, name)? else {
-            return Ok(());
-        };
-        if self.interfaces.get(&interface).is_none() {
-            self.interfaces.insert(interface, place)?;
-        }
-        let series = series_of(interface, &version);
-        let is_greatest = match self.series.get(&series) {
-            Some(greatest) => is_before(&greatest.version, &version),
-            None => true,
-        };
-        if is_greatest {
-            self.series.insert(series, Greatest { place, version })?;
-        }
-        Ok(())
-    }
-
-    /// What is there for a name: what has it, or else the greatest compatible version that is not
-    /// before it, as components are linked.
-    pub(crate) fn find(&self, alloc: Global, name: &'a str) -> Result<Found, AllocError> {
-        if let Some(place) = self.names.get(&name) {
-            return Ok(Found::Exact(*place));
-        }
-        let Some((interface, version)) = versioned(alloc, name)? else {
-            return Ok(Found::Nothing);
-        };
-        if let Some(place) = self.fitting(releases(interface, &version), &version) {
-            return Ok(Found::Compatible(place));
-        }
-        if let Some(place) = self.fitting(prereleases(interface, &version), &version) {
-            return Ok(Found::Compatible(place));
-        }
-        match self.interfaces.get(&interface) {
-            Some(place) => Ok(Found::Other(*place)),
-            None => Ok(Found::Nothing),
-        }
-    }
-
-    /// What has the greatest version of a series, if that is not before this one.
-    fn fitting(&self, series: Series<'a>, version: &Version) -> Option<usize> {
-        let greatest = self.series.get(&series)?;
-        if is_before(&greatest.version, version) {
-            return None;
-        }
-        // A release fits none of the pre-releases before it.
-        if version.pre.is_empty() && !greatest.version.pre.is_empty() {
-            return None;
-        }
-        Some(greatest.place)
+    name: &ExternName,
+) -> Result<(), AllocError>
+    ensures { OnOk result ((all before : List NamedExport) → HasExports table.now all
+        → HasExports kept.old before
+        → HasExports kept.new (before ++ filter
+        (λ e. is_one (only (candidates all e.name))) (named_export 0 place name.now ∷ []))) }
+{
+    match table.candidate(alloc, name)? {
+        Candidate::One { .. } => kept.add(name, 0, place),
+        Candidate::None => Ok(()),
+        Candidate::Several => Ok(()),
     }
 }
 
-/// An interface's name without its version, and the version, where it has one.
-fn versioned(alloc: Global, name: &str) -> Result<Option<(&str, Version)>, AllocError> {
-    let Some((interface, version)) = name.split_once('@') else {
-        return Ok(None);
-    };
-    match Version::parse(alloc, version) {
-        Ok(version) => Ok(Some((interface, version))),
-        // A name that a signature has is one, so what is refused is memory.
-        Err(_) => Err(AllocError),
+/// The greatest of compatible versions, by a table of all.
+fn greatest_of(alloc: Global, table: &Exports, names: &[ExternName]) -> Result<Exports, AllocError>
+    requires { HasExports table.now (exports_named 0 names.now) }
+    ensures { IfOk result (λ kept. HasExports kept (greatest names.now)) }
+{
+    let mut kept = Exports::new(alloc);
+    for (place, name) in names.iter().enumerate() {
+        add_greatest(alloc, table, &mut kept, place, name)?;
+    }
+    Ok(kept)
+}
+
+/// What candidates are as a face.
+pub(crate) fn face_of(candidate: Candidate) -> Face
+    ensures { result ≡ face_of candidate }
+{
+    match candidate {
+        Candidate::None => Face::Nothing,
+        Candidate::One { export, .. } => Face::One(export),
+        Candidate::Several => Face::Several,
     }
 }
 
-fn is_before(a: &Version, b: &Version) -> bool {
-    matches!(a.cmp_precedence(b), Ordering::Less)
-}
-
-/// The series that a version belongs to.
-fn series_of<'a>(interface: &'a str, version: &Version) -> Series<'a> {
-    if version.pre.is_empty() {
-        releases(interface, version)
-    } else {
-        prereleases(interface, version)
+impl Offers {
+    /// These. Refused only where there is no memory.
+    pub(crate) fn new(alloc: Global, externs: &Externs) -> Result<Offers, AllocError>
+        ensures { IfOk result (λ o. (t : Types) → o.names.items ≡ extern_names t externs.now) }
+    {
+        let names = names_of(alloc, externs)?;
+        let table = table_of(alloc, &names)?;
+        let kept = greatest_of(alloc, &table, &names)?;
+        Ok(Offers { names, table, kept })
     }
-}
 
-/// The releases that are compatible with a version: they share its numbers up to the first that is
-/// not 0.
-fn releases<'a>(interface: &'a str, version: &Version) -> Series<'a> {
-    let numbers = if version.major > 0 {
-        (version.major, 0, 0)
-    } else if version.minor > 0 {
-        (0, version.minor, 0)
-    } else {
-        (0, 0, version.patch)
-    };
-    (interface, false, numbers)
-}
+    /// What fits a name: nothing, one alone, or several.
+    pub(crate) fn found(&self, alloc: Global, wanted: &ExternName) -> Result<Candidate, AllocError>
+        ensures { IfOk result (λ c. c ≡ found self.now.names.items wanted.now) }
+    {
+        self.table.candidate(alloc, wanted)
+    }
 
-/// The pre-releases of the release that a version is or leads to.
-fn prereleases<'a>(interface: &'a str, version: &Version) -> Series<'a> {
-    (
-        interface,
-        true,
-        (version.major, version.minor, version.patch),
-    )
+    /// What of the greatest fits a name.
+    fn found_greatest(&self, alloc: Global, wanted: &ExternName) -> Result<Candidate, AllocError>
+        ensures { IfOk result (λ c. c
+            ≡ only (candidates (greatest self.now.names.items) wanted.now)) }
+    {
+        self.kept.candidate(alloc, wanted)
+    }
+
+    /// The greatest of several that fit a name.
+    fn greatest_face(&self, alloc: Global, wanted: &ExternName) -> Result<Face, AllocError>
+        ensures { IfOk result (λ f. f ≡ one_or_several
+            (only (candidates (greatest self.now.names.items) wanted.now))) }
+    {
+        match self.found_greatest(alloc, wanted)? {
+            Candidate::One { export, .. } => Ok(Face::One(export)),
+            Candidate::None => Ok(Face::Several),
+            Candidate::Several => Ok(Face::Several),
+        }
+    }
+
+    /// What fits a name, or of several the greatest.
+    pub(crate) fn best_face(&self, alloc: Global, wanted: &ExternName) -> Result<Face, AllocError>
+        ensures { IfOk result (λ f. f ≡ best_face self.now.names.items wanted.now) }
+    {
+        match self.found(alloc, wanted)? {
+            Candidate::None => Ok(Face::Nothing),
+            Candidate::One { export, .. } => Ok(Face::One(export)),
+            Candidate::Several => self.greatest_face(alloc, wanted),
+        }
+    }
+
+    /// What faces an import at the place of the one that has its name, if one has.
+    pub(crate) fn host_face(
+        &self,
+        alloc: Global,
+        wanted: &ExternName,
+        place: Option<usize>,
+    ) -> Result<Face, AllocError>
+        requires { place ≡ place_in self.now.names.items wanted.now }
+        ensures { IfOk result (λ f. f ≡ host_face self.now.names.items wanted.now) }
+    {
+        match place {
+            Some(place) => Ok(Face::One(place)),
+            None => self.best_face(alloc, wanted),
+        }
+    }
 }

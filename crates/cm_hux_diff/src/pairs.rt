@@ -1,11 +1,11 @@
-//! Resources of both sides that correspond.
+//! What stands for resources in words.
 
 use std::alloc::{AllocError, Global};
 use std::collections::BTreeMap;
 use std::fmt::Write;
 
-/// The pairs of resources, by the numbers that both texts have for them: the two that stand under
-/// one name are a pair, and each resource belongs to the first that it is in.
+/// What stands for the resources of both sides, by the numbers that both texts have for them: those
+/// for which one stands are the same where types are compared.
 #[derive(Drop)]
 pub(crate) struct Pairs {
     alloc: Global,
@@ -15,7 +15,7 @@ pub(crate) struct Pairs {
 }
 
 impl Pairs {
-    /// No pair yet.
+    /// Nothing stands for any yet.
     pub(crate) fn new(alloc: Global) -> Pairs {
         Pairs {
             alloc,
@@ -25,62 +25,70 @@ impl Pairs {
         }
     }
 
-    /// Takes note of a pair, if both of these are resources.
-    pub(crate) fn note(&mut self, old: &str, new: &str) -> Result<(), AllocError> {
-        let (Some(old), Some(new)) = (resource_of(old), resource_of(new)) else {
-            return Ok(());
-        };
-        let pair = self.count;
-        if self.old.get(&old).is_none() {
-            self.old.insert(old, pair)?;
+    /// The next number.
+    fn next(&mut self) -> u64 {
+        let number = self.count;
+        self.count = number.saturating_add(1);
+        number
+    }
+
+    /// What the old one imports is the host's, if it is a resource.
+    pub(crate) fn note_imported(&mut self, old: &str) -> Result<(), AllocError> {
+        if let Some(old) = resource_of(old) {
+            if self.old.get(&old).is_none() {
+                let number = self.next();
+                self.old.insert(old, number)?;
+            }
         }
-        if self.new.get(&new).is_none() {
-            self.new.insert(new, pair)?;
-        }
-        self.count = pair.saturating_add(1);
         Ok(())
     }
 
-    /// Whether two texts are one where resources of one pair are.
-    pub(crate) fn agree(&self, old: &str, new: &str) -> bool {
-        let mut others = new.split('#');
-        for (place, part) in old.split('#').enumerate() {
-            match others.next() {
-                Some(other) if place == 0 && part == other => {}
-                Some(other) if place > 0 && self.are_one(part, other) => {}
-                _ => return false,
-            }
+    /// What the new one imports is what the host has for it, if both are resources.
+    pub(crate) fn note_served(&mut self, new: &str, old: &str) -> Result<(), AllocError> {
+        let (Some(new), Some(old)) = (resource_of(new), resource_of(old)) else {
+            return Ok(());
+        };
+        if let (None, Some(number)) = (self.new.get(&new), self.old.get(&old).copied()) {
+            self.new.insert(new, number)?;
         }
-        others.next().is_none()
+        Ok(())
     }
 
-    /// Whether parts that begin with the numbers of resources agree.
-    fn are_one(&self, old: &str, new: &str) -> bool {
-        let (a, behind) = numbered(old);
-        let (b, other) = numbered(new);
-        behind == other
-            && match (self.pair_of(&self.old, a), self.pair_of(&self.new, b)) {
-                (Some(pair), Some(other)) => pair == other,
-                _ => false,
+    /// What the old one exports is what the new one has for it, if both are resources.
+    pub(crate) fn note_used(&mut self, old: &str, new: &str) -> Result<(), AllocError> {
+        let (Some(old), Some(new)) = (resource_of(old), resource_of(new)) else {
+            return Ok(());
+        };
+        let number = match self.new.get(&new) {
+            Some(number) => *number,
+            None => {
+                let number = self.next();
+                self.new.insert(new, number)?;
+                number
             }
+        };
+        if self.old.get(&old).is_none() {
+            self.old.insert(old, number)?;
+        }
+        Ok(())
     }
 
     fn pair_of(&self, pairs: &BTreeMap<u64, u64>, number: Option<u64>) -> Option<u64> {
         pairs.get(&number?).copied()
     }
 
-    /// A text of the old side, in which pairs stand for resources.
+    /// A text of the old side, in which numbers of both sides stand for resources.
     pub(crate) fn old_text(&self, text: &str) -> Result<String, AllocError> {
         self.with_pairs(&self.old, "old", text)
     }
 
-    /// A text of the new side, in which pairs stand for resources.
+    /// The same of the new side.
     pub(crate) fn new_text(&self, text: &str) -> Result<String, AllocError> {
         self.with_pairs(&self.new, "new", text)
     }
 
-    /// A text with the number of its pair for each resource; a resource of none has its own number
-    /// behind a word for its side.
+    /// A text with what stands for each resource; where nothing does, it has its own number behind
+    /// a word for its side.
     fn with_pairs(
         &self,
         pairs: &BTreeMap<u64, u64>,

@@ -1,7 +1,7 @@
 //! The checks of a script, while it is played.
 
 use crate::looking::{Found, event_found, memory_found, printed};
-use crate::watcher::Watcher;
+use crate::printer::Printer;
 use cm_hux_files::{Fault, Stop, report};
 use cm_hux_script::{Check, Moment, Wanted};
 use cm_machine::{Event, Set};
@@ -113,17 +113,17 @@ impl Checks {
     }
 
     /// Makes the checks of this moment, where this is the last event.
-    pub(crate) fn make<W: Watcher, E: Write>(
+    pub(crate) fn make<P: Printer, E: Write>(
         &mut self,
         moment: Moment,
         set: &Set,
         event: Option<&Event>,
-        watcher: &mut W,
+        printer: &mut P,
         err: &mut E,
     ) -> Result<(), Stop> {
         for _ in 0..self.count(moment) {
             match self.take(moment) {
-                Some(check) => self.look(&check, set, event, watcher, err)?,
+                Some(check) => self.look(&check, set, event, printer, err)?,
                 None => return Ok(()),
             }
         }
@@ -131,25 +131,25 @@ impl Checks {
     }
 
     /// Makes the checks before the next move of a guest, where this is the last event.
-    pub(crate) fn before_move<W: Watcher, E: Write>(
+    pub(crate) fn before_move<P: Printer, E: Write>(
         &mut self,
         component: usize,
         set: &Set,
         event: &Event,
-        watcher: &mut W,
+        printer: &mut P,
         err: &mut E,
     ) -> Result<(), Stop> {
         let moment = self.moment_of(component);
-        self.make(moment, set, Some(event), watcher, err)
+        self.make(moment, set, Some(event), printer, err)
     }
 
     /// Makes the checks behind a move of a guest, which led to this event.
-    pub(crate) fn behind_move<W: Watcher, E: Write>(
+    pub(crate) fn behind_move<P: Printer, E: Write>(
         &mut self,
         component: usize,
         set: &Set,
         event: &Event,
-        watcher: &mut W,
+        printer: &mut P,
         err: &mut E,
     ) -> Result<(), Stop> {
         self.is_trap_expected = false;
@@ -157,15 +157,15 @@ impl Checks {
             guest.made = guest.made.saturating_add(1);
         }
         let moment = self.moment_of(component);
-        self.make(moment, set, Some(event), watcher, err)
+        self.make(moment, set, Some(event), printer, err)
     }
 
-    fn look<W: Watcher, E: Write>(
+    fn look<P: Printer, E: Write>(
         &mut self,
         check: &Check,
         set: &Set,
         event: Option<&Event>,
-        watcher: &mut W,
+        printer: &mut P,
         err: &mut E,
     ) -> Result<(), Stop> {
         let found = match &check.wanted {
@@ -185,30 +185,30 @@ impl Checks {
                     self.is_trap_expected = true;
                 }
             }
-            Found::Line(text) => watcher.print(text.as_str())?,
-            Found::Other(text) => self.fail(check.line, text.as_str(), watcher, err)?,
+            Found::Line(text) => printer.print(text.as_str())?,
+            Found::Other(text) => self.fail(check.line, text.as_str(), printer, err)?,
         }
         Ok(())
     }
 
-    fn fail<W: Watcher, E: Write>(
+    fn fail<P: Printer, E: Write>(
         &mut self,
         line: usize,
         text: &str,
-        watcher: &mut W,
+        printer: &mut P,
         err: &mut E,
     ) -> Result<(), Stop> {
         self.has_failed = true;
         let fault = Fault::Refused(format!(in self.alloc; "script line {line}: {text}")?);
         report(err, &fault);
-        watcher.refused(&fault)
+        printer.refused(&fault)
     }
 
     /// Tells of what was expected at moments that did not come, in the order of the lines. What was
     /// to be printed only is let go.
-    pub(crate) fn tell_of_others<W: Watcher, E: Write>(
+    pub(crate) fn tell_of_others<P: Printer, E: Write>(
         &mut self,
-        watcher: &mut W,
+        printer: &mut P,
         err: &mut E,
     ) -> Result<(), Stop> {
         let mut others = Vec::new(self.alloc);
@@ -222,15 +222,15 @@ impl Checks {
         }
         others.sort_by_key(|check| check.line)?;
         for check in &others {
-            self.tell_of_other(check, watcher, err)?;
+            self.tell_of_other(check, printer, err)?;
         }
         Ok(())
     }
 
-    fn tell_of_other<W: Watcher, E: Write>(
+    fn tell_of_other<P: Printer, E: Write>(
         &mut self,
         check: &Check,
-        watcher: &mut W,
+        printer: &mut P,
         err: &mut E,
     ) -> Result<(), Stop> {
         let text = match &check.wanted {
@@ -242,6 +242,6 @@ impl Checks {
             }
             Wanted::Print { .. } => return Ok(()),
         };
-        self.fail(check.line, text.as_str(), watcher, err)
+        self.fail(check.line, text.as_str(), printer, err)
     }
 }

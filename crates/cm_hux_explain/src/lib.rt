@@ -15,4 +15,4 @@ pub use cm_machine_model::Trap;
 pub use fault::ExplainFault;
 pub use row::Row;
 pub use rows::all_rows;
-pub use trapped::{LastMove, explain_trap};
+pub use trapped::{KeptMove, LastMove, ShortMove, explain_trap};

@@ -1,6 +1,6 @@
 //! `hux play` and `hux live`: a linked set is played, and told as the words of a command want it.
 //!
-//! Watchers print the events of a play, or what components say to one another: as lines, objects or
+//! Printers print the events of a play, or what components say to one another: as lines, objects or
 //! a diagram, in the words of Mermaid.
 #![tactic(auto)]
 
@@ -10,7 +10,6 @@ mod graph;
 mod guarded;
 mod hearing;
 mod living;
-mod mirrored;
 mod named;
 mod planned;
 mod playing;

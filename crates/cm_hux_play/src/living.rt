@@ -2,14 +2,13 @@
 
 use crate::guarded::{Lines, MAX_LINE, Noted, ReadFault};
 use crate::hearing::Hearing;
-use crate::mirrored::Mirrored;
 use crate::named::{component_names, file_names};
 use crate::planned::write_plan;
 use cm_hux_drive::files::{
     Ending, Fault, Files, Linked, LoadedFiles, Streams, ToolFault, create, load_files, unwritten,
 };
 use cm_hux_drive::lines::SetSize;
-use cm_hux_drive::make_set;
+use cm_hux_said::Watch;
 use cm_hux_words::{Habits, LiveWords};
 use cm_live::{Listener, Record, Served, Session, serve};
 use cm_live_plan::pages_of;
@@ -97,13 +96,13 @@ impl<'l, 'b, 'a> Live<'l, 'b, 'a> {
         let names = component_names(self.alloc, self.loaded)?;
         let files = file_names(self.alloc, self.loaded)?;
         write_plan(self.alloc, self.loaded, self.linked, out)?;
-        let mirrored = self.mirrored(words.values, &pages)?;
+        let watch = self.watch(words.values)?;
         let mut record = record(self.alloc, words.record, pages, streams)?;
         let Ok(reader) = streams.reader(self.alloc) else {
             return Err(Fault::Input);
         };
         let mut hearing = Hearing {
-            mirrored,
+            watch,
             names: names.as_slice(),
             files: told(self.is_quiet, &files),
             err,
@@ -121,17 +120,13 @@ impl<'l, 'b, 'a> Live<'l, 'b, 'a> {
         )
     }
 
-    /// A set like that of the session, where the values that pass are wanted.
-    fn mirrored(
-        &self,
-        wanted: bool,
-        pages: &[u32],
-    ) -> Result<Option<Mirrored<'l, 'b>>, Fault<'static>> {
-        if !wanted {
-            return Ok(None);
+    /// Who watches what passes, where the values are wanted.
+    fn watch(&self, wanted: bool) -> Result<Option<Watch<'l, 'b>>, AllocError> {
+        if wanted {
+            Ok(Some(Watch::new(self.alloc, self.linked)?))
+        } else {
+            Ok(None)
         }
-        let set = make_set(self.alloc, self.linked, pages)?;
-        Ok(Some(Mirrored::new(self.alloc, self.linked, set)?))
     }
 
     /// Plays the lines on the session, and records them where a record of this name is given.

@@ -83,10 +83,10 @@ fn messages_of(alloc: Global, word: Option<&str>) -> Result<u64, Fault<'static>>
 }
 
 /// The script of a file, for what is linked.
-fn script_of<'a, F: Files>(
+fn script_of<'a, 'l, 'b, F: Files>(
     alloc: Global,
     name: &'a str,
-    linked: &Linked<'_>,
+    linked: &'l Linked<'b>,
     files: &mut F,
 ) -> Result<HuxScript, Fault<'a>> {
     let names = Names::of(alloc, linked.components())?;

@@ -1,7 +1,7 @@
 //! Telling what components say to one another.
 
 use cm_hux_drive::files::{Fault, Stop};
-use cm_hux_drive::{Event, Move, Set, Watcher};
+use cm_hux_drive::{Event, Move, Printer, Set};
 use cm_hux_said::{Actor, Message, Watch};
 use std::alloc::{AllocError, Global};
 
@@ -65,7 +65,7 @@ pub(crate) fn look_before(
     watch.before(&actor, made)
 }
 
-impl<T: Teller> Watcher for Telling<'_, '_, T> {
+impl<T: Teller> Printer for Telling<'_, '_, T> {
     fn begin(&mut self, _set: &Set, root: u32, _event: &Event) -> Result<(), Stop> {
         let message = self.watch.begin(root);
         self.teller.tell(&message)

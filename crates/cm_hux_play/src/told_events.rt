@@ -2,7 +2,7 @@
 
 use cm_hux_drive::files::{Fault, Object, Stop, event_object, line_of, tell, tell_fault, told};
 use cm_hux_drive::lines::write_event;
-use cm_hux_drive::{Event, Move, Set, Watcher};
+use cm_hux_drive::{Event, Move, Printer, Set};
 use cm_hux_words::Habits;
 use std::alloc::Global;
 use std::io::Write;
@@ -31,7 +31,7 @@ impl<O: Write> ToldEvents<'_, O> {
     }
 }
 
-impl<O: Write> Watcher for ToldEvents<'_, O> {
+impl<O: Write> Printer for ToldEvents<'_, O> {
     fn begin(&mut self, _set: &Set, _root: u32, event: &Event) -> Result<(), Stop> {
         self.tell(event)
     }

@@ -6,7 +6,7 @@ use crate::said_objects::SaidObjects;
 use crate::telling::Telling;
 use crate::told_events::ToldEvents;
 use cm_hux_drive::files::{Ending, Linked, Stop, tell_bytes, told};
-use cm_hux_drive::{HuxScript, Set, Watcher, play_script};
+use cm_hux_drive::{HuxScript, Printer, Set, play_script};
 use cm_hux_said::Watch;
 use cm_hux_words::Habits;
 use std::alloc::Global;
@@ -63,8 +63,8 @@ impl Play<'_, '_, '_, '_> {
         }
     }
 
-    /// Plays the script for a watcher.
-    fn watched<W: Watcher, E: Write>(self, watcher: &mut W, err: &mut E) -> Result<Ending, Stop> {
+    /// Plays the script for a printer.
+    fn printed<P: Printer, E: Write>(self, printer: &mut P, err: &mut E) -> Result<Ending, Stop> {
         let Play {
             alloc,
             names,
@@ -72,13 +72,13 @@ impl Play<'_, '_, '_, '_> {
             script,
             ..
         } = self;
-        play_script(alloc, set, script, names, watcher, err)
+        play_script(alloc, set, script, names, printer, err)
     }
 
     fn events<O: Write, E: Write>(self, out: &mut O, err: &mut E) -> Result<Ending, Stop> {
         let alloc = self.alloc;
         let habits = self.wanted.habits;
-        self.watched(&mut ToldEvents { alloc, habits, out }, err)
+        self.printed(&mut ToldEvents { alloc, habits, out }, err)
     }
 
     fn values<O: Write, E: Write>(self, out: &mut O, err: &mut E) -> Result<Ending, Stop> {
@@ -90,7 +90,7 @@ impl Play<'_, '_, '_, '_> {
         };
         let watch = Watch::new(self.alloc, self.linked)?;
         let mut telling = Telling::new(self.alloc, watch, said);
-        self.watched(&mut telling, err)
+        self.printed(&mut telling, err)
     }
 
     fn chart<O: Write, E: Write>(
@@ -102,7 +102,7 @@ impl Play<'_, '_, '_, '_> {
         let diagram = Diagram::begin(out, self.shown, messages)?;
         let watch = Watch::new(self.alloc, self.linked)?;
         let mut telling = Telling::new(self.alloc, watch, SaidChart { diagram, out });
-        let ending = self.watched(&mut telling, err)?;
+        let ending = self.printed(&mut telling, err)?;
         telling.into_teller().finish()?;
         Ok(ending)
     }

@@ -250,7 +250,7 @@ const WHAT: Word = Word {
 const OLD: Word = Word {
     name: "old",
     value: "A",
-    help: "What a user is made for",
+    help: "What users and hosts are made for",
     form: Form::Word,
     letter: None,
     tie: Tie::Free,
@@ -259,7 +259,7 @@ const OLD: Word = Word {
 const NEW: Word = Word {
     name: "new",
     value: "B",
-    help: "What the user is to get",
+    help: "What they are to get",
     form: Form::Word,
     letter: None,
     tie: Tie::Free,
@@ -431,17 +431,17 @@ and its usual cause, what to do, and the section of the standard.",
     },
     Described {
         name: "diff",
-        about: "Says what a component or world lacks or has changed for one that uses another",
+        about: "Says what a component or world in place of another breaks, and for whom",
         example: "\
 Each of the two is a component file, or a WIT text with a world in it. Status 1 where
-what one uses is gone or changed, or where more is imported; what is marked harmless breaks
-nothing.
+something breaks for users, who import what A exports, or for hosts, which export what A
+imports. What may clash breaks only where another component exports it too.
 
 Example:
   hux diff old.wasm new.wasm
 prints
-  export greet is gone
-  export welcome is new (harmless)",
+  export greet is gone (breaks users)
+  export welcome is new (may clash)",
         words: &[OLD, NEW, WORLDS],
     },
 ];

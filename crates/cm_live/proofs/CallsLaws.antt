@@ -26,14 +26,12 @@ use Rattle.cm_abi_model.specs.Requests.{is_spilled, tuple_of}
 use Rattle.cm_abi_model.specs.Views.{results}
 use Rattle.cm_abi_model.specs.declared.region.Region.{Region}
 use Rattle.cm_layout.specs.Sizes.{size_of}
-use Rattle.cm_machine_links.specs.Planning.{IsPlanOf}
 use Rattle.cm_types.specs.declared.core_value.CoreKind.{CoreKind}
 use Rattle.cm_types.specs.declared.core_value.CoreKind.TheVariants as kind
-use Rattle.cm_validate_model.specs.Spaces.{Spaces}
 use Rattle.cm_live.specs.Calls.{calls_after, calls_after_call, calls_after_move}
 use Rattle.cm_live.specs.Calls.{calls_after_return, number_of, opens, opens_by, place_by}
 use Rattle.cm_live.specs.Calls.{place_by_move}
-use Rattle.cm_live.specs.Playing.{calls_of}
+use Rattle.cm_live.specs.Played.{calls_of}
 use Rattle.cm_live.specs.Told.{result_of}
 use Rattle.cm_live.specs.declared.goings_on.Call.{Call}
 use Rattle.cm_live.proofs.ShapeLaws.{AreShaped, IsShaped, number_at_end}
@@ -61,17 +59,6 @@ placed : (s : State) (i : ℕ) (args : List CoreValue) (l : Link) (n : ℕ)
 placed s i args l n h =
     placed_by (is_spilled results (types_of l results)) (args_kinds l) args
     (size_of (tuple_of (types_of l results))) h
-
--- two plans of one set have the same places
-pub same_places : (set : List Spaces) (p q : Plan) (i : ℕ) (m : Move) → IsPlanOf set p
-    → IsPlanOf set q → place_by_move p i m ≡ place_by_move q i m
-same_places set p q i (move.Write at bytes) h k = refl
-same_places set p q i (move.Grow pages) h k = refl
-same_places set p q i (move.Call func args) h k =
-    ap (λ (f : Option CoreFunc). place_by f args.items)
-    (h.core_funcs i func ∙ sym (k.core_funcs i func))
-same_places set p q i (move.Return values) h k = refl
-same_places set p q i move.Unreachable h k = refl
 
 -- ---- calls
 

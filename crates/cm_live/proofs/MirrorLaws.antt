@@ -3,6 +3,7 @@ use Rattle.std.proofs.Common.{◌≡◌, ◌<◌, ◌⊎◌, inl, inr, ℕ, Bool
 use Rattle.std.proofs.Common.{length, Option, Some, None, refl, sym, ap, subst, ◌∙◌}
 use Rattle.std.specs.Prelude.{Err, IfOk, Ok, OnErr, Result, reverse, slice_index, unwrap_or}
 use Rattle.std.specs.Option.{option_map}
+use Rattle.std.specs.Result.{IsErrOf}
 use Rattle.std.specs.declared.alloc.Global.{Global}
 use Rattle.std.specs.declared.vec.Vec.{Vec}
 use Rattle.cm_types.specs.declared.core_value.CoreValue.{CoreValue}
@@ -48,25 +49,24 @@ use Rattle.cm_machine.specs.cm_machine_model.Plan.{types_of}
 use Rattle.cm_types.specs.Values.{Val}
 use Rattle.cm_live.specs.Calls.{IsLatest, IsToldAfter, calls, calls_after, opens_by}
 use Rattle.cm_live.specs.Calls.{place_by_move}
+use Rattle.cm_live.specs.Kept.{KeepsNothing, gives_values, rooms}
 use Rattle.cm_live.specs.Mirrors.{ChangesAreTold, OnlyBytesChange, OnlyRegionsChange}
-use Rattle.cm_live.specs.Playing.{ArePlacesOf, IsPlayed, calls_of}
+use Rattle.cm_live.specs.Played.{IsPlayed, calls_of}
 use Rattle.cm_live.specs.Told.{TellsExactly, entered, handed, told_by}
 use Rattle.cm_live.proofs.BackLaws.{IsAllAsked, asks_answered, back_inside, body_inside, same_answer}
-use Rattle.cm_live.proofs.ShapeLaws.{IsShaped, shaped}
-use Rattle.cm_live.specs.declared.results.ResultPlaces.{ResultPlaces}
+use Rattle.cm_live.proofs.ShapeLaws.{IsShaped, no_values, none_kept, shaped}
 use Rattle.cm_abi_model.specs.declared.region.Region.{Region}
 use Rattle.cm_live.specs.declared.goings_on.Asking.{Asking}
 use Rattle.cm_live.specs.declared.goings_on.Call.{Call}
 use Rattle.cm_live.specs.declared.goings_on.GoingsOn.{GoingsOn}
-use Rattle.cm_live.specs.Kept.{rooms}
 use Rattle.cm_live.specs.Rooms.{IsAsking, asking_after_move, rooms_after_move, rooms_of}
-use Rattle.cm_live.specs.Rooms.{rooms_told, with_place}
+use Rattle.cm_live.specs.Rooms.{latest_place, rooms_told, with_place}
 use Rattle.cm_live.specs.Told.{result_of}
 use Rattle.cm_machine.specs.cm_machine_laws.Causes.{HaveKinds, one_number}
 use Rattle.cm_machine.specs.cm_machine_laws.Doing.{Asked, LoweredCall}
 use Rattle.std.specs.Prelude.{⊤}
 use Rattle.cm_live.specs.declared.answer.Written.{Written}
-use Rattle.cm_live.proofs.CallsLaws.{follows, kept_call, kept_move, same_places}
+use Rattle.cm_live.proofs.CallsLaws.{follows, kept_call, kept_move}
 use Rattle.cm_live.proofs.RoomLaws.{OneValue, asks_on, entry_inside, in_reverse, told_at_last}
 use Rattle.cm_live.proofs.RoomLaws.{told_on}
 
@@ -385,16 +385,16 @@ regions_told false plan s i m e g ds acting told l is k asks a none some =
     ∙ told_on plan s i m ds g.asking (rooms g) e acting is asks a
 
 -- who moved, how memories changed, and what was told
-pub move_told : (linked : List Spaces) (old : RunningSet) (g : GoingsOn) (m : Move) (e : Event)
-    (new : RunningSet) (mover : ℕ) (told : Written) → Moved old g m e new mover
+pub move_told : (old : RunningSet) (g : GoingsOn) (m : Move) (e : Event) (new : RunningSet)
+    (mover : ℕ) (told : Written) → Moved old g m e new mover
     → (is_last e ≡ false → IsToldAfter m e (calls g) told.instance)
     → (is_last e ≡ true → told.regions.items ≡ [])
     → (is_last e ≡ false
     → reverse told.regions.items ≡ rooms_told m e g.asking (rooms g) (calls g))
-    → IsPlayed linked old g
+    → IsPlayed old g
     → (i : ℕ) × (option_map actor (top_of old.state.stack) ≡ Some i)
     × ChangesAreTold old.state i m e told new.state × TellsExactly old m e told new.state
-move_told linked old g m e new mover told v tells none some k =
+move_told old g m e new mover told v tells none some k =
     let h = moved_by old m e new ∷ k.past in
     let ds = doing k.plan k.past in
     let y = v.goes_on k.plan k.pages k.past k.planned k.history in
@@ -440,15 +440,14 @@ pub record AsksAfter (g : GoingsOn) (m : Move) (e : Event) (after : GoingsOn) : 
   pub rooms_are : is_last e ≡ false → rooms after ≡ rooms_after_move m e g.asking (rooms g)
 
 -- what is kept is so by a move, which is this call where it is one
-pub move_plays : (linked : List Spaces) (old : RunningSet) (g : GoingsOn) (m : Move) (e : Event)
-    (new : RunningSet) (after : GoingsOn) (mover : ℕ) (c : Call) (places : ResultPlaces)
-    → Moved old g m e new mover → new.links ≡ old.links
+pub move_plays : (old : RunningSet) (g : GoingsOn) (m : Move) (e : Event) (new : RunningSet)
+    (after : GoingsOn) (mover : ℕ) (c : Call) → Moved old g m e new mover → new.links ≡ old.links
     → ((opens_by m e ≡ true → length (calls g) < MAX_FRAMES)
     → calls after ≡ calls_after m e c (calls g))
-    → AsksAfter g m e after → ArePlacesOf linked places → c.caller ≡ mover
-    → ((p : Plan) → ArePlanned p places.links → c.result ≡ place_by_move p mover m)
-    → IsPlayed linked old g → IsPlayed linked new after
-move_plays linked old g m e new after mover c places v links kept n z by wants k =
+    → AsksAfter g m e after → c.caller ≡ mover
+    → ((p : Plan) → ArePlanned p old.links → c.result ≡ place_by_move p mover m)
+    → IsPlayed old g → IsPlayed new after
+move_plays old g m e new after mover c v links kept n by wants k =
     let h = moved_by old m e new ∷ k.past in
     let ds = doing k.plan k.past in
     let y = v.goes_on k.plan k.pages k.past k.planned k.history in
@@ -457,9 +456,7 @@ move_plays linked old g m e new after mover c places v links kept n z by wants k
     let is : mover ≡ w.0 =
     v.mover_is ∙ ap (λ (o : Option ℕ). unwrap_or o 0) (v.acts ∙ stands ∙ w.1) in
     let result : c.result ≡ place_by_move k.plan w.0 m =
-    wants z.plan z.planned
-    ∙ same_places linked z.plan k.plan mover m z.of_linked k.of_linked
-    ∙ ap (λ (j : ℕ). place_by_move k.plan j m) is in
+    wants k.plan k.planned ∙ ap (λ (j : ℕ). place_by_move k.plan j m) is in
     let call : c ≡ kept_move k.plan w.0 m =
     ap (λ (j : ℕ). kept_call j c.result) (by ∙ is) ∙ ap (kept_call w.0) result in
     let answer = v.laws.answers k.plan k.pages h new.state y m refl in
@@ -471,7 +468,6 @@ move_plays linked old g m e new after mover c places v links kept n z by wants k
     (λ l. (n.asking l, n.rooms_are l)) in
     record {
       plan = k.plan;
-      of_linked = k.of_linked;
       pages = k.pages;
       past = h;
       planned = subst (λ (l : Links). ArePlanned k.plan l) (sym links) k.planned;
@@ -487,18 +483,43 @@ move_plays linked old g m e new after mover c places v links kept n z by wants k
       below_calls = asks.1;
     }
 
+-- a return without core values has nothing to be kept
+pub keeps_nothing : (old : RunningSet) (g : GoingsOn) (m : Move) (e : Event) (new : RunningSet)
+    (mover : ℕ) → Moved old g m e new mover → IsPlayed old g → is_last e ≡ false
+    → gives_values m ≡ false → KeepsNothing m g
+keeps_nothing old g (move.Return values) e new mover v k l none =
+    let h = moved_by old (move.Return values) e new ∷ k.past in
+    let y = v.goes_on k.plan k.pages k.past k.planned k.history in
+    let w = (v.laws.memory k.plan k.pages h new.state y).1 (move.Return values) refl in
+    let n = none_kept k.plan old.state (doing k.plan k.past) w.0 values e g.asking (rooms g) l
+    (λ t. v.laws.refusals k.plan k.pages h new.state y (move.Return values) w.0 t refl w.1)
+    (v.laws.answers k.plan k.pages h new.state y (move.Return values) refl)
+    (no_values values.items none) k.asks in
+    (n.0, ap latest_place k.called ∙ n.1)
+keeps_nothing old g (move.Write at bytes) e new mover v k l none = tt
+keeps_nothing old g (move.Grow pages) e new mover v k l none = tt
+keeps_nothing old g (move.Call func args) e new mover v k l none = tt
+keeps_nothing old g move.Unreachable e new mover v k l none = tt
+
+-- what is done is not refused
+pub none_refused : {A E : Type 0} (v : A) (e : E) → IsErrOf {T = A} {E = E} (Ok v) e → ⊥
+none_refused {A} {E} v e same = subst (λ (r : Result A E). OnErr r ⊥) same tt
+
+-- what holds of a move that gives core values, and of one that gives none
+pub by_values : {A : Type 0} (gives : Bool) → (gives ≡ true → A) → (gives ≡ false → A) → A
+by_values true some none = some refl
+by_values false some none = none refl
+
 -- and by the beginning of a root call
-pub begin_plays : (linked : List Spaces) (old : RunningSet) (g : GoingsOn) (i : ℕ) (e : Event)
-    (new : RunningSet) → Laws → GoesOnFrom old (begins i) e new → new.links ≡ old.links
-    → IsPlayed linked old g → IsPlayed linked new g
-begin_plays linked old g i e new laws goes links k =
+pub begin_plays : (old : RunningSet) (g : GoingsOn) (i : ℕ) (e : Event) (new : RunningSet) → Laws
+    → GoesOnFrom old (begins i) e new → new.links ≡ old.links → IsPlayed old g → IsPlayed new g
+begin_plays old g i e new laws goes links k =
     let x : Occurrence =
     record { before = old.state; action = begins i; event = e; after = new.state } in
     let y = goes k.plan k.pages k.past k.planned k.history in
     let b = laws.begins_nothing k.plan k.pages (x ∷ k.past) new.state y i refl in
     record {
       plan = k.plan;
-      of_linked = k.of_linked;
       pages = k.pages;
       past = x ∷ k.past;
       planned = subst (λ (l : Links). ArePlanned k.plan l) (sym links) k.planned;
@@ -509,10 +530,9 @@ begin_plays linked old g i e new laws goes links k =
     }
 
 pub new_plays : (linked : List Spaces) (pages : List ℕ) (s : RunningSet) (g : GoingsOn)
-    → IsNew linked pages s → calls g ≡ [] → g.asking ≡ None → rooms g ≡ [] → IsPlayed linked s g
+    → IsNew linked pages s → calls g ≡ [] → g.asking ≡ None → rooms g ≡ [] → IsPlayed s g
 new_plays linked pages s g n c a r = record {
   plan = n.plan;
-  of_linked = n.of_linked;
   pages = pages;
   past = [];
   planned = n.planned;
@@ -523,12 +543,10 @@ new_plays linked pages s g n c a r = record {
 }
 
 -- where there is only more room
-pub kept_plays : (linked : List Spaces) (s : RunningSet) (g after : GoingsOn)
-    → after.calls ≡ g.calls → after.asking ≡ g.asking → rooms after ≡ rooms g
-    → IsPlayed linked s g → IsPlayed linked s after
-kept_plays linked s g after c a r k = record {
+pub kept_plays : (s : RunningSet) (g after : GoingsOn) → after.calls ≡ g.calls
+    → after.asking ≡ g.asking → rooms after ≡ rooms g → IsPlayed s g → IsPlayed s after
+kept_plays s g after c a r k = record {
   plan = k.plan;
-  of_linked = k.of_linked;
   pages = k.pages;
   past = k.past;
   planned = k.planned;
@@ -540,12 +558,10 @@ kept_plays linked s g after c a r k = record {
 }
 
 -- a root call that begins or not
-pub begin_either : (linked : List Spaces) (old : RunningSet) (g : GoingsOn) (i : ℕ)
-    (r : Result Event Misuse) (new : RunningSet) → Laws
-    → IfOk r (λ e. GoesOnFrom old (begins i) e new)
-    → OnErr r (new ≡ old) → new.links ≡ old.links → IsPlayed linked old g
-    → IsPlayed linked new g
-begin_either linked old g i (Ok e) new laws goes err links k =
-    begin_plays linked old g i e new laws goes links k
-begin_either linked old g i (Err m) new laws goes err links k =
-    subst (λ (s : RunningSet). IsPlayed linked s g) (sym err) k
+pub begin_either : (old : RunningSet) (g : GoingsOn) (i : ℕ) (r : Result Event Misuse)
+    (new : RunningSet) → Laws → IfOk r (λ e. GoesOnFrom old (begins i) e new)
+    → OnErr r (new ≡ old) → new.links ≡ old.links → IsPlayed old g → IsPlayed new g
+begin_either old g i (Ok e) new laws goes err links k =
+    begin_plays old g i e new laws goes links k
+begin_either old g i (Err m) new laws goes err links k =
+    subst (λ (s : RunningSet). IsPlayed s g) (sym err) k

@@ -27,7 +27,7 @@ use Rattle.cm_machine.specs.cm_machine_laws.Told.{AsksFor, answers_in, met_at_ca
 use Rattle.cm_machine.specs.cm_machine_laws.Told.{sent_requests}
 use Rattle.cm_machine.specs.cm_machine_laws.Causes.{MayCall}
 use Rattle.cm_live.specs.Rooms.{AllMayCall, AreAsked, IsAsking, asking_after_move, asking_by_event, rooms_after_move, rooms_answered, rooms_left}
-use Rattle.cm_live.specs.Playing.{calls_of}
+use Rattle.cm_live.specs.Played.{calls_of}
 use Rattle.cm_live.specs.Rooms.{rooms_told, told_by_return, with_place}
 use Rattle.cm_live.specs.Told.{entered, result_of, told_by}
 use Rattle.cm_machine.specs.cm_machine_model.declared.event.Event.TheVariants as event

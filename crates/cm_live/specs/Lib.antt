@@ -2,7 +2,7 @@ pub mod Calls
 pub mod Kept
 pub mod Lines
 pub mod Mirrors
-pub mod Playing
+pub mod Played
 pub mod Recordings
 pub mod Rooms
 pub mod Sessions

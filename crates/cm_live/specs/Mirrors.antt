@@ -53,14 +53,18 @@ ChangesAreTold old i (move.Return values) (event.Resume j back) told new =
     OnlyRegionsChange old told new
 ChangesAreTold old i m e told new = SameMemories old new
 
--- The answer to a move tells what was written, beside the memory of the instance that moved, and
--- no more than that.
-abbrev pub TellsWhose : RunningSet → Move → Answer → RunningSet → Type 0
-TellsWhose old m answer.Ready new = ⊤
-TellsWhose old m (answer.Told written e) new =
+-- What is told of a move with this event is what was written, beside the memory of the instance
+-- that moved, and no more than that.
+abbrev pub Tells : RunningSet → Move → Written → Event → RunningSet → Type 0
+Tells old m written e new =
     ∥ ((i : ℕ) × (option_map actor (top_of old.state.stack) ≡ Some i)
     × ChangesAreTold old.state i m e written new.state
     × TellsExactly old m e written new.state) ∥₁
+
+-- The answer to a move tells that.
+abbrev pub TellsWhose : RunningSet → Move → Answer → RunningSet → Type 0
+TellsWhose old m answer.Ready new = ⊤
+TellsWhose old m (answer.Told written e) new = Tells old m written e new
 
 -- The answer to the beginning of a root call tells nothing.
 abbrev pub TellsNothing : Answer → Type 0

@@ -1,15 +1,17 @@
 -- What a statement does to a set that is played, and why it is refused (this project's own choice).
-use Rattle.std.specs.Prelude.{◌≡◌, ◌⊎◌, ℕ, List, [], Some}
+use Rattle.std.specs.Prelude.{◌≡◌, ◌⊎◌, ℕ, List, [], Some, true}
 use Rattle.cm_validate_model.specs.Spaces.{Spaces}
 use Rattle.cm_machine.specs.cm_machine_model.declared.event.Event.{Event}
 use Rattle.cm_machine.specs.cm_machine_model.declared.event.Event.TheVariants as event
 use Rattle.cm_machine.specs.cm_machine_model.declared.event.Misuse.{Misuse}
 use Rattle.cm_machine.specs.cm_machine_model.declared.event.Misuse.TheVariants as misuse
+use Rattle.cm_machine.specs.cm_machine_model.declared.moves.Move.{Move}
 use Rattle.cm_machine.specs.cm_machine_model.History.{begins, moves}
 use Rattle.cm_machine.specs.cm_machine_model.Run.{misuse_of_begin}
 use Rattle.cm_machine.specs.cm_machine_set.Running.{GoesOnFrom, IsNew, RunningSet}
 use Rattle.cm_tool_script.specs.declared.statement.Statement.{Statement}
 use Rattle.cm_tool_script.specs.declared.statement.Statement.TheVariants as statement
+use Rattle.cm_live.specs.Kept.{gives_values}
 use Rattle.cm_live.specs.declared.answer.Answer.{Answer}
 use Rattle.cm_live.specs.declared.answer.Answer.TheVariants as answer
 use Rattle.cm_live.specs.declared.fault.LiveFault.{LiveFault}
@@ -38,6 +40,12 @@ IsOfNoSet f = (f ≡ fault.Misuse misuse.BadPages) ⊎ (f ≡ fault.Misuse misus
 abbrev pub IsOfNoRoot : RunningSet → ℕ → LiveFault → Type 0
 IsOfNoRoot old root f =
     (m : Misuse) × (misuse_of_begin old.state root ≡ Some m) × (f ≡ fault.Misuse m)
+
+-- why a move is not made: nobody acts; or it gives core values, and there is no memory
+abbrev pub IsNoStep : RunningSet → Move → Misuse → Type 0
+IsNoStep old m misuse.Idle = old.state.stack ≡ []
+IsNoStep old m misuse.Memory = gives_values m ≡ true
+IsNoStep old m _ = ⊥
 
 -- why no move is made: nobody acts, or there is no memory
 abbrev pub IsOfNoMove : RunningSet → LiveFault → Type 0

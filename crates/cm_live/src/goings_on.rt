@@ -1,12 +1,12 @@
 //! What goes on, told by moves and events, as far as adapters write memory for it.
 
 ghost use Rattle.std.specs.Prelude.{◌≡◌, ◌+◌, ◌<◌, ◌≤◌, [], ◌∷◌, false, length, reverse, slice_get};
-ghost use Rattle.std.specs.Prelude.{MatchOption, None, OnOk, OnSome, true};
+ghost use Rattle.std.specs.Prelude.{MatchOption, None, OnErr, OnOk, OnSome, true};
 ghost use Rattle.cm_machine.specs.cm_machine_model.Events.{is_last};
 ghost use Rattle.cm_live.specs.Calls.{IsLatest, IsToldAfter, IsToldAtCall, IsToldAtReturn, calls};
 ghost use Rattle.cm_live.specs.Calls.{calls_after, calls_after_call, calls_after_return, earlier};
 ghost use Rattle.cm_live.specs.Calls.{latest_has_come, number_of, opens, opens_by, without_result};
-ghost use Rattle.cm_live.specs.Kept.{CanKeep, CanKeepOne, rooms};
+ghost use Rattle.cm_live.specs.Kept.{CanKeep, CanKeepOne, KeepsNothing, gives_values, rooms};
 ghost use Rattle.cm_live.specs.Rooms.{asking_after_move, asking_by, asking_by_event, latest_place};
 ghost use Rattle.cm_live.specs.Rooms.{older, rooms_after_move, rooms_answered, rooms_left};
 ghost use Rattle.cm_live.specs.Rooms.{rooms_told, told_by_return, with_place};
@@ -57,6 +57,16 @@ pub(crate) fn number_at(values: &[CoreValue], index: usize) -> u32
     }
 }
 
+/// Whether a move is a return that gives core values.
+fn gives_values(made: &Move) -> bool
+    ensures { result ≡ gives_values made.now }
+{
+    match made {
+        Move::Return { values } => values.len() > 0,
+        Move::Call { .. } | Move::Write { .. } | Move::Grow { .. } | Move::Unreachable => false,
+    }
+}
+
 /// What an allocator is asked for by these core values: an old room and its size, an alignment and
 /// a size (CanonicalABI.md, `canonopt.realloc`).
 fn asking_by(args: &[CoreValue]) -> Asking
@@ -95,14 +105,20 @@ impl GoingsOn {
         }
     }
 
-    /// Makes room for what the next event tells. A refusal changes nothing.
-    pub(crate) fn reserve(&mut self) -> Result<(), AllocError>
+    /// Makes room for what a move may have told: a return that gives core values may answer an
+    /// allocator's room, and hand a result over. A refusal changes nothing.
+    pub(crate) fn make_room(&mut self, made: &Move) -> Result<(), AllocError>
         ensures calls { self.new.calls ≡ self.old.calls }
         ensures asking { self.new.asking ≡ self.old.asking }
         ensures rooms { rooms self.new ≡ rooms self.old }
-        ensures room { OnOk result (CanKeep self.new) }
+        ensures room { OnOk result (gives_values made.now ≡ true → CanKeep self.new) }
+        ensures refused { OnErr result (gives_values made.now ≡ true) }
     {
-        self.rooms.reserve(2)
+        if gives_values(made) {
+            self.rooms.reserve(2)
+        } else {
+            Ok(())
+        }
     }
 
     /// Nothing goes on.
@@ -131,6 +147,12 @@ impl GoingsOn {
         ensures rooms { CanKeep self.old → is_last event.now ≡ false → rooms self.new
             ≡ rooms_after_move made.now event.now self.old.asking (rooms self.old) }
         ensures regions { CanKeep self.old → is_last event.now ≡ false
+            → reverse result.regions.items
+            ≡ rooms_told made.now event.now self.old.asking (rooms self.old) (calls self.old) }
+        ensures same_rooms { KeepsNothing made.now self.old → is_last event.now ≡ false
+            → rooms self.new
+            ≡ rooms_after_move made.now event.now self.old.asking (rooms self.old) }
+        ensures no_more { KeepsNothing made.now self.old → is_last event.now ≡ false
             → reverse result.regions.items
             ≡ rooms_told made.now event.now self.old.asking (rooms self.old) (calls self.old) }
     {
@@ -214,6 +236,11 @@ impl GoingsOn {
         ensures regions { CanKeep self.old → reverse result.regions.items
             ≡ told_by_return event.now
             (rooms_answered self.old.asking values.now (rooms self.old)) (calls self.old) }
+        ensures same_rooms { self.old.asking ≡ None
+            → rooms self.new ≡ rooms_left event.now (rooms self.old) }
+        ensures no_more { self.old.asking ≡ None → latest_place (calls self.old) ≡ None
+            → reverse result.regions.items
+            ≡ told_by_return event.now (rooms self.old) (calls self.old) }
     {
         self.take_answer(values);
         match event {
@@ -236,6 +263,7 @@ impl GoingsOn {
         ensures rooms { CanKeep self.old → rooms self.new
             ≡ rooms_answered self.old.asking values.now (rooms self.old) }
         ensures room { CanKeep self.old → CanKeepOne self.new }
+        ensures same_rooms { self.old.asking ≡ None → rooms self.new ≡ rooms self.old }
     {
         let Some(asking) = self.asking.take() else {
             return;
@@ -277,6 +305,8 @@ impl GoingsOn {
         ensures told { IsLatest (calls self.old) result.instance }
         ensures regions { CanKeepOne self.old → reverse result.regions.items
             ≡ with_place (latest_place (calls self.old)) (rooms self.old) }
+        ensures no_more { latest_place (calls self.old) ≡ None
+            → reverse result.regions.items ≡ rooms self.old }
     {
         let Some(call) = self.take_latest() else {
             return self.tell(0);
@@ -293,6 +323,8 @@ impl GoingsOn {
         ensures told { IsLatest (calls self.old) result.instance }
         ensures regions { CanKeepOne self.old → reverse result.regions.items
             ≡ with_place (latest_place (calls self.old)) (rooms self.old) }
+        ensures no_more { latest_place (calls self.old) ≡ None
+            → reverse result.regions.items ≡ rooms self.old }
     {
         match self.take_latest() {
             Some(call) => self.tell_result(call),
@@ -308,6 +340,7 @@ impl GoingsOn {
         ensures told { result.instance ≡ call.caller }
         ensures regions { CanKeepOne self.old → reverse result.regions.items
             ≡ with_place call.result (rooms self.old) }
+        ensures no_more { call.result ≡ None → reverse result.regions.items ≡ rooms self.old }
     {
         if let Some(place) = call.result {
             self.keep(place);

@@ -74,8 +74,9 @@ impl Tally {
 /// Writes `ready`; then reads a line, does what it says, and writes and flushes its answer, line by
 /// line, until the input ends or so many moves were made. A line that is refused is answered
 /// `error: ` with the reason, and nothing has changed; so is a line that the input ends in, with no
-/// LF behind it. Of a statement that was done the listener hears; it is recorded then, where a
-/// record is given, as a script that leads to the same events; and then it is answered.
+/// LF behind it. The listener sees a move before it is made, and hears of a statement that was
+/// done; it is recorded then, where a record is given, as a script that leads to the same events;
+/// and then it is answered.
 ///
 /// An error is one of the reader, the writer or the record, or that there is no memory for a line.
 /// What the lines did that were read until then is done.
@@ -167,10 +168,10 @@ fn serve_line<W: Write, K: Write, L: Listener>(
     ensures linked { linked_of session.new ≡ linked_of session.old }
 {
     let actor = session.acting();
-    match do_line(alloc, session, line, record) {
+    match do_line(alloc, session, line, record, listener) {
         Ok((statement, answer)) => {
             tally.add(&statement, &answer);
-            listener.hear(actor, &statement, &answer);
+            listener.hear(session.set(), actor, &statement, &answer);
             keep(record, statement, line, actor)?;
             write_answer(writer, session, &answer)
         }
@@ -178,12 +179,14 @@ fn serve_line<W: Write, K: Write, L: Listener>(
     }
 }
 
-/// Does what a line says. Where it is refused, nothing has changed.
-fn do_line<K: Write>(
+/// Does what a line says, and shows the listener a move before. Where it is refused, nothing has
+/// changed.
+fn do_line<K: Write, L: Listener>(
     alloc: Global,
     session: &mut Session<'_, '_>,
     line: &[u8],
     record: &Option<Record<K>>,
+    listener: &mut L,
 ) -> Result<(Statement, Answer), LiveFault>
     ensures does { IfOk result (λ d. LineDoes (linked_of session.old) (recording_of «record».now)
         (set_of session.old) line.now (done d.0 d.1) (set_of session.new)) }
@@ -193,6 +196,9 @@ fn do_line<K: Write>(
 {
     let statement = statement_of(alloc, line)?;
     admit(record, &statement)?;
+    if let Statement::Move(made) = &statement {
+        listener.making(session.set(), made);
+    }
     let answer = session.act(&statement)?;
     Ok((statement, answer))
 }

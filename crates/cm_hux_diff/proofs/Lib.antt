@@ -1,0 +1,9 @@
+pub mod Texts
+pub mod Places
+pub mod Faces
+pub mod Bindings
+pub mod Breaks
+pub mod Entries
+pub mod Numbers
+pub mod Tables
+pub mod Standings

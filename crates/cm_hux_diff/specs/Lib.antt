@@ -1,0 +1,4 @@
+pub mod Facing
+pub mod Held
+pub mod Breaking
+pub mod Views
