@@ -187,8 +187,10 @@ size_t take_memory(uint32_t instance) {
     return number_of(asked_of("take", instance, NULL));
 }
 
-void give_memory(uint32_t instance, size_t length) {
-    asked_of("give", instance, JSValueMakeNumber(context, (double)length));
+void give_memory(uint32_t instance, uint32_t at, size_t length) {
+    JSValueRef words[] = {JSValueMakeNumber(context, instance), JSValueMakeNumber(context, at),
+                          JSValueMakeNumber(context, (double)length)};
+    asked("give", 3, words);
 }
 
 void grow_memory(uint32_t instance, uint32_t pages) {

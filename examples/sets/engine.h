@@ -4,7 +4,7 @@
 
 #include "huxarte.h"
 
-/* The bytes of a guest's memory, as take_memory found them and as give_memory hands them over. */
+/* Bytes of a guest's memory, as take_memory found them and as give_memory hands them over. */
 extern uint8_t staging[1024 * 65536];
 
 /* Begins: the file of engine.js, and what is called where a guest calls out. It answers its core
@@ -29,9 +29,11 @@ int answer_of(uint32_t instance, uint32_t func);
 int run_func(uint32_t instance, uint32_t func, const HuxCore *values, size_t count,
              HuxCore *answer);
 
-/* How many bytes the memory has, which are then in staging; and back. */
+/* How many bytes the memory has, which are then in staging. */
 size_t take_memory(uint32_t instance);
-void give_memory(uint32_t instance, size_t length);
+
+/* Puts the first bytes of staging into the memory, from `at` on. */
+void give_memory(uint32_t instance, uint32_t at, size_t length);
 
 /* Grows the memory of a guest by pages. */
 void grow_memory(uint32_t instance, uint32_t pages);

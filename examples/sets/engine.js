@@ -57,7 +57,7 @@ const lines = {
 function plan(index, bytes, words) {
     guests[index] ??= new Guest(index, new Uint8Array(bytes));
     const [kind, ...rest] = words.split(' ');
-    lines[kind](guests[index], ...rest);
+    lines[kind]?.(guests[index], ...rest); // types are of no use here
 }
 
 const pages = (index) => guests[index].pages;
@@ -67,16 +67,14 @@ const lifted = (index, func) => guests[index].lifts[func]?.name ?? '';
 const answers = (index, func) => guests[index].lifts[func]?.result ?? '';
 const run = (index, func, ...values) => outward(guests[index].func[func](...values.map(inward)));
 
-// The memory of a guest, into what the host sees, and back.
+// The memory of a guest, into what the host sees; and what it has there, into the memory.
 function take(index) {
     const bytes = guests[index].own && new Uint8Array(guests[index].own.buffer);
     if (bytes) staging.set(bytes);
     return bytes ? bytes.length : 0;
 }
 
-function give(index, length) {
-    const { own } = guests[index];
-    if (own) new Uint8Array(own.buffer).set(staging.subarray(0, length));
-}
+const give = (index, at, length) =>
+    new Uint8Array(guests[index].own.buffer).set(staging.subarray(0, length), at);
 
 const grow = (index, count) => guests[index].own.grow(count);

@@ -67,12 +67,22 @@ static int are_equal(const HuxVerdict *a, const HuxVerdict *b) {
     return a->kind == b->kind && a->reason == b->reason && a->place == b->place;
 }
 
+/* Whether of two sets the same regions were written before the latest event. */
+static int write_alike(HuxSet *a, HuxSet *b) {
+    HuxRegion regions[2][MOST] = {0};
+    HuxWritten one = {0, 0}, other = {0, 0};
+    fine(hux_set_written(a, &one, regions[0], MOST), "hux_set_written");
+    fine(hux_set_written(b, &other, regions[1], MOST), "hux_set_written");
+    return one.count == other.count && one.instance == other.instance &&
+           !memcmp(regions[0], regions[1], sizeof regions[0]);
+}
+
 /* Whether two sets are the same to all looks. */
 static int are_alike(HuxSet *a, HuxSet *b) {
     HuxSetState one, other;
     fine(hux_set_state(a, &one), "hux_set_state");
     fine(hux_set_state(b, &other), "hux_set_state");
-    int alike = !memcmp(&one, &other, sizeof one);
+    int alike = !memcmp(&one, &other, sizeof one) && write_alike(a, b);
     for (uint32_t at = 0; alike && at < one.instances; at++) {
         static uint8_t bytes[2][65536];
         fine(hux_set_read(a, at, 0, bytes[0], 65536), "hux_set_read");

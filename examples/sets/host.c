@@ -102,11 +102,21 @@ static void tell(uint32_t instance) {
     }
 }
 
-/* Hands a guest its memory as the set has it. */
-static void pull(uint32_t instance) {
-    size_t length = size_of(instance);
-    fine(hux_set_read(&set, instance, 0, staging, length), "hux_set_read");
-    give_memory(instance, length);
+/* Copies what adapters wrote before the latest event into the memory of the guest that received
+ * it: the regions that the set tells, and no more. */
+static void hand_over(void) {
+    static HuxRegion regions[MOST_ROOMS];
+    HuxWritten seen = {0, 0};
+    fine(hux_set_written(&set, &seen, regions, MOST_ROOMS), "hux_set_written");
+    if (seen.count > MOST_ROOMS) {
+        fprintf(stderr, "host: more than %d regions\n", MOST_ROOMS);
+        exit(1);
+    }
+    for (size_t i = 0; i < seen.count && !serves_wasi(seen.instance); i++) {
+        uint32_t at = regions[i].at, size = regions[i].size;
+        fine(hux_set_read(&set, seen.instance, at, staging, size), "hux_set_read");
+        give_memory(seen.instance, at, size);
+    }
 }
 
 /* A room that no other of the same value overlaps: where the guest's allocator answers one room
@@ -141,7 +151,6 @@ static int go_on(void) {
     if (serves_wasi(instance)) {
         runs = serve_wasi(&set, instance, func, kind, values, &answer) && runs;
     } else {
-        pull(instance);
         if (!run_func(instance, func, values, count, &answer)) {
             fine(hux_set_unreachable(&set, &event), "hux_set_unreachable");
             return 0;
@@ -154,6 +163,7 @@ static int go_on(void) {
         tell(instance);
     }
     fine(hux_set_return(&set, &answer, (size_t)runs, &event), "hux_set_return");
+    hand_over();
     return event.kind < ENDED;
 }
 
@@ -167,6 +177,7 @@ static int call_out(uint32_t instance, uint32_t func, const HuxCore *values, siz
     calls++;
     room_count = 0;
     fine(hux_set_call(&set, func, values, count, &event), "hux_set_call");
+    hand_over();
     while (event.kind != 4) {
         if (event.kind >= ENDED || !go_on()) {
             return 0;
@@ -174,7 +185,6 @@ static int call_out(uint32_t instance, uint32_t func, const HuxCore *values, siz
     }
     *answer = event.values[0];
     room_count = 0;
-    pull(instance);
     return 1;
 }
 

@@ -24,6 +24,14 @@ class Span(ctypes.Structure):
     _fields_ = [("at", c_size_t), ("length", c_size_t)]
 
 
+class Region(ctypes.Structure):
+    _fields_ = [("at", c_uint32), ("size", c_uint32)]
+
+
+class Written(ctypes.Structure):
+    _fields_ = [("count", c_size_t), ("instance", c_uint32)]
+
+
 class Verdict(ctypes.Structure):
     _fields_ = [("kind", c_uint32), ("reason", c_uint32), ("file", c_size_t),
                 ("place", c_size_t), ("item", c_size_t)]
@@ -54,6 +62,7 @@ def load(path):
         "return": [handle, POINTER(Core), c_size_t, event],
         "unreachable": [handle, event],
         "read": [handle, c_uint32, c_size_t, POINTER(c_uint8), c_size_t],
+        "written": [handle, POINTER(Written), POINTER(Region), c_size_t],
     }
     for name, types in calls.items():
         function = getattr(library, f"hux_set_{name}")
@@ -107,6 +116,14 @@ class Set:
         into = (c_uint8 * max(count, 1))()
         self.ask("read", byref(self.handle), instance, at, into, count)
         return bytes(into[:count])
+
+    def written(self):
+        """What adapters wrote before the latest event: in whose memory, and where."""
+        seen = Written()
+        self.ask("written", byref(self.handle), byref(seen), (Region * 1)(), 0)
+        regions = (Region * max(seen.count, 1))()
+        self.ask("written", byref(self.handle), byref(seen), regions, seen.count)
+        return seen.instance, [(it.at, it.size) for it in regions[:seen.count]]
 
 
 def cores(numbers):
@@ -163,6 +180,8 @@ def strings(library, folder):
         pair.begin(1)
         pair.write(0, name)
         Guests(pair).go_on(pair.call(1, 0, len(name), 256))
+        told, regions = pair.written()
+        assert told == 1 and regions[-1] == (256, 8), "the place of the result is written last"
         at, size = (int.from_bytes(pair.read(1, it, 4), "little") for it in (256, 260))
         print(pair.read(1, at, size).decode())
         pair.give()

@@ -54,6 +54,8 @@ static uint32_t make(HuxSet *set) {
 /* Calls `inc` through a set whose user is to make the next move. */
 static void call_inc(HuxSet *set, uint32_t number) {
     HuxCore value = core32(number);
+    HuxWritten written = {7, 7};
+    HuxRegion region = {7, 7};
     HuxEvent event;
     assert(hux_set_call(set, 0, &value, 1, &event).kind == HUX_KIND_FINE);
     assert(event.kind == 2 && event.instance == PROVIDER && event.count == 1);
@@ -61,6 +63,8 @@ static void call_inc(HuxSet *set, uint32_t number) {
     value = core32(number + 1);
     assert(hux_set_return(set, &value, 1, &event).kind == HUX_KIND_FINE);
     assert(event.kind == 4 && event.instance == USER && event.values[0].bits == number + 1);
+    assert(hux_set_written(set, &written, &region, 1).kind == HUX_KIND_FINE);
+    assert(written.count == 0 && region.size == 7); /* a number takes no memory */
 }
 
 /* What is refused, and changes nothing. */
@@ -88,6 +92,8 @@ static void empty(HuxSet *set) {
     HuxSetState state = {0};
     HuxInstance instance = {0};
     HuxHandle handle = {0};
+    HuxWritten written = {7, 7};
+    HuxRegion region = {7, 7};
     HuxEvent event = {0};
     uint8_t byte = 9;
     assert(set->at == NULL);
@@ -99,6 +105,8 @@ static void empty(HuxSet *set) {
     assert(hux_set_unreachable(set, &event).kind == HUX_SET_KIND_EMPTY);
     assert(hux_set_state(set, &state).kind == HUX_SET_KIND_EMPTY);
     assert(hux_set_instance(set, 0, &instance).kind == HUX_SET_KIND_EMPTY);
+    assert(hux_set_written(set, &written, &region, 1).kind == HUX_SET_KIND_EMPTY);
+    assert(written.count == 7 && region.size == 7);
     assert(hux_set_read(set, 0, 0, &byte, 1).kind == HUX_SET_KIND_EMPTY);
     assert(hux_set_handle(set, 0, 1, &resource, &handle).kind == HUX_SET_KIND_EMPTY);
 }

@@ -327,6 +327,20 @@ typedef struct HuxWanted {
     size_t err;
 } HuxWanted;
 
+/* A part of a memory: its address, and how many bytes it has. */
+typedef struct HuxRegion {
+    uint32_t at;
+    uint32_t size;
+} HuxRegion;
+
+/* What adapters wrote before the latest event of a set. */
+typedef struct HuxWritten {
+    /* How many regions there are: 0 where they wrote nothing. */
+    size_t count;
+    /* In the memory of which instance they lie, from 0. */
+    uint32_t instance;
+} HuxWritten;
+
 /* Tells what passing the parameters of a call asks the callee's allocator for, in order, before
  * anything is stored (docs/DEFINITIONS.md; the order and the sizes are this project's own).
  *
@@ -551,7 +565,8 @@ HuxVerdict hux_set_call(
     HuxEvent *event);
 
 /* Returns from the function that the instance is in that acts. HUX_SET_KIND_NO_KIND and
- * HUX_KIND_MEMORY come as in `hux_set_call`. */
+ * HUX_KIND_MEMORY come as in `hux_set_call`; and HUX_KIND_MEMORY where there is none for what
+ * `hux_set_written` is to tell. */
 HuxVerdict hux_set_return(
     HuxSet *set,
     const HuxCore *values,
@@ -561,11 +576,24 @@ HuxVerdict hux_set_return(
 /* Stops the instance that acts: that is a trap. */
 HuxVerdict hux_set_unreachable(HuxSet *set, HuxEvent *event);
 
+/* Tells what adapters wrote before the latest event, which a host with memories of its own
+ * copies by `hux_set_read`: regions of one instance's memory, in the order in which room was
+ * made. Beside them a move changes the memory of the instance that moved, by its own `write` or
+ * `grow`, and no other (CanonicalABI.md, "Storing").
+ *
+ * The answer is HUX_KIND_FINE, and `regions` has as many of them as there is room for; `seen`
+ * says how many there are, 0 before the first move and behind a `begin`. Else the answer is
+ * HUX_SET_KIND_EMPTY, and both stay. The set stays in any case, also in the calls below. */
+HuxVerdict hux_set_written(
+    HuxSet *set,
+    HuxWritten *seen,
+    HuxRegion *regions,
+    size_t regions_length);
+
 /* Tells how many instances there are, whose move is next, and how much is kept of the topmost
  * call.
  *
- * The answer is HUX_KIND_FINE, and `seen` has it; else HUX_SET_KIND_EMPTY, and `seen` stays. The
- * set stays in any case, also in the calls below. */
+ * The answer is HUX_KIND_FINE, and `seen` has it; else HUX_SET_KIND_EMPTY, and `seen` stays. */
 HuxVerdict hux_set_state(HuxSet *set, HuxSetState *seen);
 
 /* Tells how many bytes the memory of an instance has, and whether a trap has closed it.

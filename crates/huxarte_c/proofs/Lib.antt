@@ -1,1 +1,4 @@
 mod PlayLaws
+pub mod SetLaws
+pub mod Values
+pub mod WrittenLaws

@@ -1,1 +1,9 @@
+pub mod Cores
+pub mod Events
+pub mod Kept
+pub mod Looking
+pub mod Making
+pub mod PlayedSets
 pub mod Playing
+pub mod Refused
+pub mod Written

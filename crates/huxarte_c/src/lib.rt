@@ -3,8 +3,17 @@
 
 mod calls;
 mod components;
+mod cores;
+mod event;
 mod hux;
+mod hux_set;
+mod kept_set;
+mod looking;
+mod making;
+mod moving;
 mod playing;
+mod refusal;
 mod sets;
 mod streams;
+mod telling;
 mod tool;

@@ -3,20 +3,24 @@
 ghost use Rattle.std.specs.Prelude.{◌≡◌, None, length, map};
 ghost use Rattle.cm_machine_model.specs.Moves.{CallsWith, ReturnsWith, WritesAt};
 ghost use Rattle.cm_machine_model.specs.declared.moves.Move.TheVariants as moves;
-ghost use Rattle.huxarte_c_sets.specs.Cores.{value_of};
+ghost use Rattle.huxarte_c.specs.Cores.{value_of};
 ghost use Rattle.huxarte_c_calls.specs.Verdicts.{verdict_by};
-ghost use Rattle.huxarte_c_sets.specs.Kept.{Begins, IsDoneVerdict, IsNoBegin, IsNoCoreMove};
-ghost use Rattle.huxarte_c_sets.specs.Kept.{IsNoListMove, IsNoMove, Moves};
-ghost use Rattle.huxarte_c_sets.specs.Looking.{handle_seen, instance_seen, part_seen};
-ghost use Rattle.huxarte_c_sets.specs.Looking.{state_seen, told_or};
-ghost use Rattle.huxarte_c_sets.specs.Making.{IsNewVerdict};
-ghost use Rattle.huxarte_c_sets.specs.Refused.{of_set};
+ghost use Rattle.huxarte_c.specs.Kept.{Begins, IsDoneVerdict, IsNoBegin, IsNoCoreMove};
+ghost use Rattle.huxarte_c.specs.Kept.{IsNoListMove, IsNoMove, Moves};
+ghost use Rattle.huxarte_c.specs.Looking.{handle_seen, instance_seen, part_seen};
+ghost use Rattle.huxarte_c.specs.Looking.{state_seen, told_or};
+ghost use Rattle.huxarte_c.specs.Making.{IsNewVerdict};
+ghost use Rattle.huxarte_c.specs.Refused.{of_set};
+ghost use Rattle.huxarte_c.specs.Written.{regions_or, written_seen};
 
+use crate::cores::HuxCore;
+use crate::event::HuxEvent;
+use crate::hux_set::HuxSet;
+use crate::looking::{HuxInstance, HuxResource, HuxSetState, handle, instance, read, state};
+use crate::making::make;
+use crate::moving::{begin, call, give, grow, stop, write};
+use crate::telling::{HuxRegion, HuxWritten, written};
 use huxarte_c_calls::{HuxHandle, HuxSpan, HuxVerdict};
-use huxarte_c_sets::{
-    HuxCore, HuxEvent, HuxInstance, HuxResource, HuxSet, HuxSetState, begin, call, give, grow,
-    handle, instance, make, read, state, stop, write,
-};
 use std::alloc::Global;
 
 /// Links the components of files, each a part of the bytes, as `hux_link` does, and has the handle
@@ -118,7 +122,7 @@ pub extern "C" fn hux_set_call(
 }
 
 /// Returns from the function that the instance is in that acts. `NoKind` and `Memory` come as in
-/// `hux_set_call`.
+/// `hux_set_call`; and `Memory` where there is none for what `hux_set_written` is to tell.
 #[unsafe(no_mangle)]
 pub extern "C" fn hux_set_return(
     alloc: Global,
@@ -147,11 +151,33 @@ pub extern "C" fn hux_set_unreachable(
     stop(alloc, set, event)
 }
 
+/// Tells what adapters wrote before the latest event, which a host with memories of its own copies
+/// by `hux_set_read`: regions of one instance's memory, in the order in which room was made. Beside
+/// them a move changes the memory of the instance that moved, by its own `write` or `grow`, and no
+/// other (CanonicalABI.md, "Storing").
+///
+/// The answer is `Fine`, and `regions` has as many of them as there is room for; `seen` says how
+/// many there are, 0 before the first move and behind a `begin`. Else the answer is `Empty`, and
+/// both stay. The set stays in any case, also in the calls below.
+#[unsafe(no_mangle)]
+pub extern "C" fn hux_set_written(
+    alloc: Global,
+    set: &mut HuxSet,
+    seen: &mut HuxWritten,
+    regions: &mut [HuxRegion],
+) -> HuxVerdict
+    ensures verdict { result ≡ verdict_by of_set (written_seen set.old.kept) }
+    ensures seen { seen.new ≡ told_or seen.old (written_seen set.old.kept) }
+    ensures regions { regions.new ≡ regions_or regions.old set.old.kept }
+    ensures kept { set.new.kept ≡ set.old.kept }
+{
+    written(alloc, set, seen, regions)
+}
+
 /// Tells how many instances there are, whose move is next, and how much is kept of the topmost
 /// call.
 ///
-/// The answer is `Fine`, and `seen` has it; else `Empty`, and `seen` stays. The set stays in any
-/// case, also in the calls below.
+/// The answer is `Fine`, and `seen` has it; else `Empty`, and `seen` stays.
 #[unsafe(no_mangle)]
 pub extern "C" fn hux_set_state(
     alloc: Global,

@@ -1,4 +1,0 @@
-use Rattle.huxarte_c_sets.proofs.moving.begin.Goals as goal
-
-pub returns : goal.returns
-returns c = (c.begin_told.result, c.begin_told.ensures, c.verdict.ensures)

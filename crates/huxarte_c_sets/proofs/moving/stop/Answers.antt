@@ -1,4 +1,0 @@
-use Rattle.huxarte_c_sets.proofs.moving.stop.Goals as goal
-
-pub returns : goal.returns
-returns c = (c.make_move.result, c.make_move.ensures, c.verdict.ensures)
