@@ -39,7 +39,7 @@ DOORS = (
     "cm_hux",
 )
 # rooms that stand behind several doors, each with the first of these
-SHARED = {"cm_names": "cm_types"}
+SHARED = {"cm_files": "cm_tool", "cm_names": "cm_types"}
 # what the build makes of a crate's code, beside its definitions
 MADE = ("declared", "contracts")
 

@@ -2,9 +2,10 @@
 
 use crate::objects::{tell_arguments, tell_open, tell_plan, tell_written};
 use cm_hux_play::files::{
-    Bundle, Checked, Ending, Fault, Files, Linked, LoadedFiles, Streams, load_files, made,
-    open_imports, read_bundle, read_bytes, refuse_to_overwrite, tell_bytes, unwritten,
-    write_arguments, write_file, write_plan, write_whole,
+    Bundle, Checked, Ending, Fault, Files, Linked, LoadedFiles, Streams, UsesLinked, Way, What,
+    Whose, lend_linked, load_files, made, open_imports, read_bundle, read_bytes,
+    refuse_to_overwrite, tell_bytes, unwritten, write_arguments, write_file, write_plan,
+    write_whole,
 };
 use cm_hux_play::{component_names, write_graph};
 use cm_hux_words::{Habits, LinkWords, PlugWords};
@@ -14,146 +15,171 @@ use std::io::Write;
 
 /// Links the components of files, and prints which export serves each import, or a graph of it.
 /// Before it prints it writes them as one file, where one is named.
-pub(crate) fn run_link<'a, F: Files, S: Streams, O: Write>(
+pub(crate) fn run_link<'p, 'a, F: Files, S: Streams, O: Write>(
     alloc: Global,
-    words: &LinkWords<'a>,
+    words: &'p LinkWords<'a>,
     habits: Habits,
     files: &mut F,
-    streams: &mut S,
-    out: &mut O,
-) -> Result<Ending, Fault<'a>> {
+    streams: &'p mut S,
+    out: &'p mut O,
+) -> Result<Ending, Fault> {
     let export = export_of(alloc, words.export)?;
     keep_inputs(alloc, words.out, &words.files)?;
-    let (loaded, unread) = load_files(alloc, files, &words.files);
-    let linked = loaded.link(alloc, unread)?;
-    let set = LinkedFiles {
+    let (loaded, unread) = load_files(alloc, files, &words.files, Way::Real);
+    let mut linking = Linking {
         alloc,
-        loaded: &loaded,
-        linked: &linked,
+        names: &words.files,
+        written: words.out,
+        export,
+        mermaid: words.mermaid,
         habits,
+        streams,
+        out,
     };
-    set.write(words.out, export, streams, out)?;
-    if words.mermaid {
-        set.tell_graph(out)?;
-    } else {
-        set.tell_links(out)?;
-    }
-    Ok(Ending::Done)
+    lend_linked(alloc, &loaded, unread, &words.files, &mut linking)
 }
 
-/// Links the components of files as `run_link` does, with a line before for each import that no
-/// component before exports.
-pub(crate) fn run_plug<'a, F: Files, S: Streams, O: Write>(
+/// Links the components of files as `run_link` does. Where they do not link it prints a line for
+/// each import that no component before exports.
+pub(crate) fn run_plug<'p, 'a, F: Files, S: Streams, O: Write>(
     alloc: Global,
-    words: &PlugWords<'a>,
+    words: &'p PlugWords<'a>,
     habits: Habits,
     files: &mut F,
-    streams: &mut S,
-    out: &mut O,
-) -> Result<Ending, Fault<'a>> {
+    streams: &'p mut S,
+    out: &'p mut O,
+) -> Result<Ending, Fault> {
     keep_inputs(alloc, words.out, &words.files)?;
-    let (loaded, unread) = load_files(alloc, files, &words.files);
-    let linked = link_with_open(alloc, &loaded, unread, habits, out)?;
-    let set = LinkedFiles {
+    let (loaded, unread) = load_files(alloc, files, &words.files, Way::Real);
+    let mut linking = Linking {
         alloc,
-        loaded: &loaded,
-        linked: &linked,
+        names: &words.files,
+        written: words.out,
+        export: None,
+        mermaid: false,
         habits,
+        streams,
+        out,
     };
-    set.write(words.out, None, streams, out)?;
-    set.tell_links(out)?;
-    Ok(Ending::Done)
+    match lend_linked(alloc, &loaded, unread, &words.files, &mut linking) {
+        Err(fault) if is_of_links(&fault) => linking.refuse(&loaded, fault),
+        ended => ended,
+    }
+}
+
+/// Whether components do not link.
+fn is_of_links(fault: &Fault) -> bool {
+    matches!(fault.what, What::Link { .. })
 }
 
 /// Refuses to write the set over one of its files.
-fn keep_inputs(alloc: Global, out: Option<&str>, files: &[&str]) -> Result<(), Fault<'static>> {
+fn keep_inputs(alloc: Global, out: Option<&str>, files: &[&str]) -> Result<(), Fault> {
     match out {
         Some(out) => refuse_to_overwrite(alloc, out, files),
         None => Ok(()),
     }
 }
 
-/// The linked set of the components of files, of which it prints the open imports before.
-fn link_with_open<'a, 'b, O: Write>(
+/// Writes and prints what files link to.
+#[derive(Drop)]
+struct Linking<'p, 'a, S, O> {
     alloc: Global,
-    loaded: &'b LoadedFiles<'a>,
-    unread: Option<Fault<'a>>,
+    /// The words that name the files.
+    names: &'p [&'a str],
+    /// The file that the set is written to.
+    written: Option<&'a str>,
+    /// The component whose exports that file has; the last where none is said.
+    export: Option<usize>,
+    /// Whether a graph is printed.
+    mermaid: bool,
     habits: Habits,
-    out: &mut O,
-) -> Result<Linked<'b>, Fault<'a>> {
-    let components = loaded.check(alloc, unread)?;
-    if habits.json {
-        tell_open(alloc, &components, out)?;
-    } else {
-        write_open(alloc, &components, out)?;
+    streams: &'p mut S,
+    out: &'p mut O,
+}
+
+impl<S: Streams, O: Write> UsesLinked for Linking<'_, '_, S, O> {
+    ghost use Rattle.std.specs.Prelude.{⊤};
+
+    type Answer = Ending;
+
+    // What is printed is said by no contract.
+    ghost uses = { λ _ _ _ _ _. ⊤ };
+
+    fn use_linked(&mut self, files: &LoadedFiles, linked: &Linked<'_>) -> Result<Ending, Fault> {
+        self.write(files, linked)?;
+        if self.mermaid {
+            self.tell_graph(files, linked)?;
+        } else {
+            self.tell_links(linked)?;
+        }
+        Ok(Ending::Done)
     }
-    loaded.link_checked(alloc, components)
 }
 
-/// Files, and what they link to.
-#[derive(Clone, Copy)]
-struct LinkedFiles<'l, 'b, 'a> {
-    alloc: Global,
-    loaded: &'l LoadedFiles<'a>,
-    linked: &'l Linked<'b>,
-    habits: Habits,
-}
-
-impl<'a> LinkedFiles<'_, '_, 'a> {
-    /// Writes the set as one file, where one is named, with the exports of this component, or of
-    /// the last.
-    fn write<S: Streams, O: Write>(
-        &self,
-        name: Option<&'a str>,
-        export: Option<usize>,
-        streams: &mut S,
-        out: &mut O,
-    ) -> Result<(), Fault<'a>> {
-        let Some(name) = name else {
+impl<S: Streams, O: Write> Linking<'_, '_, S, O> {
+    /// Writes the set as one file, where one is named.
+    fn write(&mut self, files: &LoadedFiles, linked: &Linked<'_>) -> Result<(), Fault> {
+        let Some(name) = self.written else {
             return Ok(());
         };
-        let last = self.linked.components().len().saturating_sub(1);
-        let bytes = self.bundle(export.unwrap_or(last))?;
-        write_file(self.alloc, streams, name, &bytes)?;
-        tell_of_file(self.alloc, name, bytes.len(), self.habits, out)
-    }
-
-    /// The set as one file, with the exports of this component.
-    fn bundle(&self, export: usize) -> Result<Vec<u8>, Fault<'static>> {
-        let files = self.loaded.bytes(self.alloc)?;
-        Ok(made(self.alloc, self.linked, &files, export)?)
+        let last = linked.components().len().saturating_sub(1);
+        let bytes = bundle_of(self.alloc, files, linked, self.export.unwrap_or(last))?;
+        write_file(self.alloc, self.streams, name, &bytes)?;
+        tell_of_file(self.alloc, name, bytes.len(), self.habits, self.out)
     }
 
     /// Prints a graph of the links.
-    fn tell_graph<O: Write>(&self, out: &mut O) -> Result<(), Fault<'static>> {
-        let names = component_names(self.alloc, self.loaded)?;
+    fn tell_graph(&mut self, files: &LoadedFiles, linked: &Linked<'_>) -> Result<(), Fault> {
+        let names = component_names(self.alloc, files, self.names)?;
         if !self.habits.json {
-            write_graph(out, &names, self.linked)?;
+            write_graph(self.out, &names, linked)?;
             return Ok(());
         }
         let mut graph = Vec::new(self.alloc);
-        write_graph(&mut graph, &names, self.linked)?;
-        tell_bytes(self.alloc, "mermaid", &graph, out)
+        write_graph(&mut graph, &names, linked)?;
+        tell_bytes(self.alloc, "mermaid", &graph, self.out)
     }
 
     /// Prints which export serves each import.
-    fn tell_links<O: Write>(&self, out: &mut O) -> Result<(), Fault<'static>> {
+    fn tell_links(&mut self, linked: &Linked<'_>) -> Result<(), Fault> {
         if self.habits.json {
-            return tell_plan(self.alloc, self.linked, out);
+            return tell_plan(self.alloc, linked, self.out);
         }
-        write_plan(out, self.linked)?;
+        write_plan(self.out, linked)?;
         Ok(())
+    }
+
+    /// Answers the fault of links, and prints the imports of these files that are open before.
+    fn refuse(&mut self, files: &LoadedFiles, fault: Fault) -> Result<Ending, Fault> {
+        let components = files.check(self.alloc)?;
+        if self.habits.json {
+            tell_open(self.alloc, &components, self.out)?;
+        } else {
+            write_open(self.alloc, &components, self.out)?;
+        }
+        Err(fault)
     }
 }
 
+/// The set as one file, with the exports of this component.
+fn bundle_of(
+    alloc: Global,
+    files: &LoadedFiles,
+    linked: &Linked<'_>,
+    export: usize,
+) -> Result<Vec<u8>, Fault> {
+    let bytes = files.bytes(alloc)?;
+    Ok(made(alloc, linked, &bytes, export)?)
+}
+
 /// The number of the component whose exports a bundle has, if the words say it.
-fn export_of(alloc: Global, word: Option<&str>) -> Result<Option<usize>, Fault<'static>> {
+fn export_of(alloc: Global, word: Option<&str>) -> Result<Option<usize>, Fault> {
     let Some(word) = word else {
         return Ok(None);
     };
     match read_u32(word) {
         Some(number) => Ok(Some(number as usize)),
-        None => Err(Fault::Usage(format!(in alloc; "error: --export {word}: no number")?)),
+        None => Err(Fault::usage(format!(in alloc; "error: --export {word}: no number")?)),
     }
 }
 
@@ -164,7 +190,7 @@ fn tell_of_file<O: Write>(
     bytes: usize,
     habits: Habits,
     out: &mut O,
-) -> Result<(), Fault<'static>> {
+) -> Result<(), Fault> {
     if habits.json {
         tell_written(alloc, name, bytes, out)?;
     }
@@ -175,7 +201,7 @@ fn write_open<O: Write>(
     alloc: Global,
     components: &[Checked<'_>],
     out: &mut O,
-) -> Result<(), Fault<'static>> {
+) -> Result<(), Fault> {
     for open in open_imports(alloc, components)? {
         writeln!(out, "{} {} is open", open.component, open.name)?;
     }
@@ -184,42 +210,56 @@ fn write_open<O: Write>(
 }
 
 /// Writes the files of a bundle into a folder, and prints what each is given.
-pub(crate) fn run_unbundle<'a, F: Files, S: Streams, O: Write>(
+pub(crate) fn run_unbundle<F: Files, S: Streams, O: Write>(
     alloc: Global,
-    name: &'a str,
-    folder: &'a str,
+    name: &str,
+    folder: &str,
     habits: Habits,
     files: &mut F,
     streams: &mut S,
     out: &mut O,
-) -> Result<Ending, Fault<'a>> {
-    let bytes = read_bytes(alloc, files, name)?;
-    let bundle = read_bundle(alloc, name, &bytes)?;
-    write_parts(alloc, &bundle, folder, habits, streams, out)?;
+) -> Result<Ending, Fault> {
+    let bytes = read_bytes(alloc, files, name, Whose::File(0))?;
+    match read_bundle(alloc, &bytes) {
+        Ok(bundle) => tell_bundle(alloc, &bundle, folder, habits, streams, out),
+        Err(what) => Err(Fault::of(what, Whose::File(0))),
+    }
+}
+
+/// Writes the files of a bundle into a folder, and prints what each is given.
+fn tell_bundle<S: Streams, O: Write>(
+    alloc: Global,
+    bundle: &Bundle<'_>,
+    folder: &str,
+    habits: Habits,
+    streams: &mut S,
+    out: &mut O,
+) -> Result<Ending, Fault> {
+    write_parts(alloc, bundle, folder, habits, streams, out)?;
     if habits.json {
-        tell_arguments(alloc, &bundle, out)?;
+        tell_arguments(alloc, bundle, out)?;
     } else {
-        write_arguments(out, &bundle)?;
+        write_arguments(out, bundle)?;
     }
     Ok(Ending::Done)
 }
 
 /// Writes each part of a bundle into a folder, by its number.
-fn write_parts<'a, S: Streams, O: Write>(
+fn write_parts<S: Streams, O: Write>(
     alloc: Global,
     bundle: &Bundle<'_>,
-    folder: &'a str,
+    folder: &str,
     habits: Habits,
     streams: &mut S,
     out: &mut O,
-) -> Result<(), Fault<'a>> {
+) -> Result<(), Fault> {
     if let Err(error) = streams.create_folder(folder) {
-        return Err(unwritten(folder, &error));
+        return Err(unwritten(&error));
     }
     for (number, part) in bundle.parts.iter().enumerate() {
         let path = format!(in alloc; "{folder}/{number}.wasm")?;
         if let Err(error) = write_whole(alloc, streams, path.as_str(), part.file) {
-            return Err(unwritten(folder, &error));
+            return Err(unwritten(&error));
         }
         tell_of_file(alloc, path.as_str(), part.file.len(), habits, out)?;
     }

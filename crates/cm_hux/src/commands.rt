@@ -1,16 +1,16 @@
 //! The commands.
 
 use crate::bundling::{run_link, run_plug, run_unbundle};
-use crate::conforming::{conform, signature_of};
 use crate::differing::run_diff;
 use crate::explaining::run_explain;
+use crate::naming::words_in;
 use crate::objects::{checked_object, tell_fit};
 use crate::stubbing::run_stub;
 use cm_hux_call::run_call;
 use cm_hux_json::{core_objects, core_text, signature_objects};
 use cm_hux_play::files::{
-    Asked, Ending, Escaped, Fault, Files, Functions, Loaded, Streams, ToolFault, load_file, report,
-    tell, tell_bytes, tell_fault,
+    Asked, Ending, Escaped, Fault, File, Files, Functions, Streams, Told, Way, What, Whose, Words,
+    conform, load_file, report, tell, tell_bytes, tell_fault,
 };
 use cm_hux_play::{run_live, run_play};
 use cm_hux_show::{ShowFault, show_world};
@@ -38,17 +38,54 @@ pub fn run_hux<F: Files, S: Streams, O: Write, E: Write>(
 ) -> Ending {
     let answer = Answer::read(alloc, words);
     let objects = wants_objects(&answer, words);
-    match run_answer(alloc, answer, objects, files, streams, out, err) {
-        Ok(ending) => ending,
-        Err(fault) => {
-            report(err, &fault);
-            if objects {
-                // Where that fails too, the line on standard error stands.
-                let _ = tell_fault(alloc, &fault, out);
-            }
-            fault.ending()
+    match answer {
+        Ok(Answer::Run(request, habits)) => {
+            let ended = run(alloc, &request, habits, files, streams, out, err);
+            end(alloc, ended, words_in(&request), objects, out, err)
         }
+        Ok(Answer::Text(text)) => {
+            let ended = print_text(alloc, text.as_str(), objects, out);
+            end(alloc, ended, Words::none(), objects, out, err)
+        }
+        Err(fault) => end(
+            alloc,
+            Err(fault_of(fault)),
+            Words::none(),
+            objects,
+            out,
+            err,
+        ),
     }
+}
+
+/// The fault of words that are no command.
+fn fault_of(fault: WordsFault) -> Fault {
+    match fault {
+        WordsFault::NoCommand(text) => Fault::usage(text),
+        WordsFault::Memory => Fault::from(What::Memory),
+    }
+}
+
+/// Reports the fault of a command that has these words, if one ended it, and answers how it ends.
+fn end<O: Write, E: Write>(
+    alloc: Global,
+    ended: Result<Ending, Fault>,
+    words: Words<'_, '_>,
+    objects: bool,
+    out: &mut O,
+    err: &mut E,
+) -> Ending {
+    let fault = match &ended {
+        Ok(ending) => return *ending,
+        Err(fault) => fault,
+    };
+    let told = Told { fault, words };
+    report(err, told);
+    if objects {
+        // Where that fails too, the line on standard error stands.
+        let _ = tell_fault(alloc, told, out);
+    }
+    fault.ending()
 }
 
 /// Whether faults are printed as objects too: the lines of `live` have a form of their own.
@@ -60,30 +97,13 @@ fn wants_objects(answer: &Result<Answer<'_>, WordsFault>, words: &[String]) -> b
     }
 }
 
-fn run_answer<'a, F: Files, S: Streams, O: Write, E: Write>(
-    alloc: Global,
-    answer: Result<Answer<'a>, WordsFault>,
-    objects: bool,
-    files: &mut F,
-    streams: &mut S,
-    out: &mut O,
-    err: &mut E,
-) -> Result<Ending, Fault<'a>> {
-    match answer {
-        Ok(Answer::Run(request, habits)) => run(alloc, &request, habits, files, streams, out, err),
-        Ok(Answer::Text(text)) => print_text(alloc, text.as_str(), objects, out),
-        Err(WordsFault::NoCommand(text)) => Err(Fault::Usage(text)),
-        Err(WordsFault::Memory) => Err(Fault::Memory),
-    }
-}
-
 /// Prints help or the version, as an object where objects are wanted.
-fn print_text<'a, O: Write>(
+fn print_text<O: Write>(
     alloc: Global,
     text: &str,
     objects: bool,
     out: &mut O,
-) -> Result<Ending, Fault<'a>> {
+) -> Result<Ending, Fault> {
     if !objects {
         return print(out, text);
     }
@@ -94,15 +114,15 @@ fn print_text<'a, O: Write>(
 /// Runs a command. Where only what is wrong is wanted, what the command prints is dropped, but for
 /// the files that `check` refuses, the traps of `play`, what `live` answers, and what `diff` finds
 /// broken.
-fn run<'a, F: Files, S: Streams, O: Write, E: Write>(
+fn run<F: Files, S: Streams, O: Write, E: Write>(
     alloc: Global,
-    request: &Request<'a>,
+    request: &Request<'_>,
     habits: Habits,
     files: &mut F,
     streams: &mut S,
     out: &mut O,
     err: &mut E,
-) -> Result<Ending, Fault<'a>> {
+) -> Result<Ending, Fault> {
     let prints = matches!(
         request,
         Request::Check { .. } | Request::Play(_) | Request::Live(_) | Request::Diff(_)
@@ -113,15 +133,15 @@ fn run<'a, F: Files, S: Streams, O: Write, E: Write>(
     run_command(alloc, request, habits, files, streams, out, err)
 }
 
-fn run_command<'a, F: Files, S: Streams, O: Write, E: Write>(
+fn run_command<F: Files, S: Streams, O: Write, E: Write>(
     alloc: Global,
-    request: &Request<'a>,
+    request: &Request<'_>,
     habits: Habits,
     files: &mut F,
     streams: &mut S,
     out: &mut O,
     err: &mut E,
-) -> Result<Ending, Fault<'a>> {
+) -> Result<Ending, Fault> {
     match request {
         Request::Check { files: names } => run_check(alloc, names, habits, files, out),
         Request::Show { file } => run_show(alloc, file, habits, files, out),
@@ -141,45 +161,55 @@ fn run_command<'a, F: Files, S: Streams, O: Write, E: Write>(
     }
 }
 
-fn print<'a, O: Write>(out: &mut O, text: &str) -> Result<Ending, Fault<'a>> {
+fn print<O: Write>(out: &mut O, text: &str) -> Result<Ending, Fault> {
     out.write_all(text.as_bytes())?;
     out.flush()?;
     Ok(Ending::Done)
 }
 
 /// Prints of each file, in order, that it is a valid component, or what is wrong with it.
-fn run_check<'a, F: Files, O: Write>(
+fn run_check<F: Files, O: Write>(
     alloc: Global,
-    names: &[&'a str],
+    names: &[&str],
     habits: Habits,
     files: &mut F,
     out: &mut O,
-) -> Result<Ending, Fault<'a>> {
+) -> Result<Ending, Fault> {
+    let words = Words::of_files(names);
     let mut worst = Ending::Done;
-    for name in names {
-        let checked = check_file(alloc, name, files);
+    for (number, name) in names.iter().enumerate() {
+        let checked = check_file(alloc, name, Whose::File(number), files);
         worst = worst.max(ending_of(&checked));
         if habits.quiet && checked.is_ok() {
             continue;
         }
         if habits.json {
-            tell(checked_object(alloc, name, &checked)?, out)?;
+            tell(checked_object(alloc, words, name, &checked)?, out)?;
         } else {
-            write_checked(name, &checked, out)?;
+            write_checked(words, name, &checked, out)?;
         }
     }
     out.flush()?;
     Ok(worst)
 }
 
-fn check_file<'a, F: Files>(alloc: Global, name: &'a str, files: &mut F) -> Result<(), Fault<'a>> {
-    let loaded = load_file(alloc, files, name)?;
-    let _checked = loaded.check(alloc)?;
-    Ok(())
+fn check_file<F: Files>(
+    alloc: Global,
+    name: &str,
+    whose: Whose,
+    files: &mut F,
+) -> Result<(), Fault> {
+    match load_file(alloc, files, name, whose, Way::Real) {
+        Ok(file) => match file.check(alloc, whose) {
+            Ok(_checked) => Ok(()),
+            Err(fault) => Err(fault),
+        },
+        Err(fault) => Err(fault),
+    }
 }
 
 /// How a command ends by what it found of a file.
-fn ending_of(checked: &Result<(), Fault<'_>>) -> Ending {
+fn ending_of(checked: &Result<(), Fault>) -> Ending {
     match checked {
         Ok(()) => Ending::Done,
         Err(fault) => fault.ending(),
@@ -188,28 +218,31 @@ fn ending_of(checked: &Result<(), Fault<'_>>) -> Ending {
 
 /// Prints the line of a file.
 fn write_checked<O: Write>(
+    words: Words<'_, '_>,
     name: &str,
-    checked: &Result<(), Fault<'_>>,
+    checked: &Result<(), Fault>,
     out: &mut O,
 ) -> io::Result<()> {
-    match checked {
-        Ok(()) => writeln!(out, "{}: ok", Escaped(name)),
-        Err(Fault::Memory) => writeln!(out, "{}: {}", Escaped(name), Fault::Memory),
-        Err(fault) => writeln!(out, "{fault}"),
+    let Err(fault) = checked else {
+        return writeln!(out, "{}: ok", Escaped(name));
+    };
+    if matches!(fault.what, What::Memory) {
+        write!(out, "{}: ", Escaped(name))?;
     }
+    writeln!(out, "{}", Told { fault, words })
 }
 
 /// Says that the component of a file fits a world.
-fn run_conform<'a, F: Files, O: Write>(
+fn run_conform<F: Files, O: Write>(
     alloc: Global,
-    words: ConformWords<'a>,
+    words: ConformWords<'_>,
     habits: Habits,
     files: &mut F,
     out: &mut O,
-) -> Result<Ending, Fault<'a>> {
+) -> Result<Ending, Fault> {
     let ConformWords { wit, world, file } = words;
     let asked = Asked { wit, world, file };
-    conform(alloc, asked, files)?;
+    conform(alloc, asked, files, Way::Real)?;
     if !habits.json {
         return print(out, "ok\n");
     }
@@ -217,65 +250,82 @@ fn run_conform<'a, F: Files, O: Write>(
     Ok(Ending::Done)
 }
 
+/// The only file of a command.
+fn load<F: Files>(alloc: Global, files: &mut F, name: &str) -> Result<File, Fault> {
+    load_file(alloc, files, name, ONLY, Way::Real)
+}
+
+/// With which file a command has a fault that has one.
+const ONLY: Whose = Whose::File(0);
+
 /// Prints what the component of a file imports and exports.
-fn run_show<'a, F: Files, O: Write>(
+fn run_show<F: Files, O: Write>(
     alloc: Global,
-    name: &'a str,
+    name: &str,
     habits: Habits,
     files: &mut F,
     out: &mut O,
-) -> Result<Ending, Fault<'a>> {
-    let signature = signature_of(alloc, &load_file(alloc, files, name)?)?;
-    let text = shown(name, show_world(alloc, &signature))?;
+) -> Result<Ending, Fault> {
+    let signature = signature_of(alloc, name, files)?;
+    let text = shown(show_world(alloc, &signature))?;
     if !habits.json {
         return print(out, text.as_str());
     }
-    tell_shown(alloc, name, &signature, text.as_str(), out)
+    tell_shown(alloc, &signature, text.as_str(), out)
+}
+
+/// What the component of a file imports and exports.
+fn signature_of<F: Files>(alloc: Global, name: &str, files: &mut F) -> Result<Signature, Fault> {
+    match load(alloc, files, name) {
+        Ok(file) => file.signature(alloc, ONLY),
+        Err(fault) => Err(fault),
+    }
 }
 
 /// Prints a signature as objects, before them the text that shows it.
-fn tell_shown<'a, O: Write>(
+fn tell_shown<O: Write>(
     alloc: Global,
-    name: &'a str,
     signature: &Signature,
     text: &str,
     out: &mut O,
-) -> Result<Ending, Fault<'a>> {
-    let lines = shown(name, signature_objects(alloc, signature))?;
+) -> Result<Ending, Fault> {
+    let lines = shown(signature_objects(alloc, signature))?;
     tell_bytes(alloc, "wit", text.as_bytes(), out)?;
     print(out, lines.as_str())
 }
 
 /// Prints what a script has to know of the core functions of the component of a file.
-fn run_core<'a, F: Files, O: Write>(
+fn run_core<F: Files, O: Write>(
     alloc: Global,
-    name: &'a str,
+    name: &str,
     habits: Habits,
     files: &mut F,
     out: &mut O,
-) -> Result<Ending, Fault<'a>> {
-    let loaded = load_file(alloc, files, name)?;
-    let text = core_lines(alloc, &loaded, habits)?;
+) -> Result<Ending, Fault> {
+    let text = match load(alloc, files, name) {
+        Ok(file) => core_lines(alloc, &file, habits)?,
+        Err(fault) => return Err(fault),
+    };
     print(out, text.as_str())
 }
 
 /// A line, or an object, for each core function of a file.
-fn core_lines<'a>(alloc: Global, loaded: &Loaded<'a>, habits: Habits) -> Result<String, Fault<'a>> {
-    let signature = signature_of(alloc, loaded)?;
-    let checked = loaded.check(alloc)?;
+fn core_lines(alloc: Global, file: &File, habits: Habits) -> Result<String, Fault> {
+    let signature = file.signature(alloc, ONLY)?;
+    let checked = file.check(alloc, ONLY)?;
     let functions = Functions::of(alloc, &checked)?;
     let text = if habits.json {
         core_objects(alloc, &functions, &signature)
     } else {
         core_text(alloc, &functions, &signature)
     };
-    shown(loaded.name, text)
+    shown(text)
 }
 
-/// A text of a file, or why it is not shown.
-fn shown<'a>(name: &'a str, text: Result<String, ShowFault>) -> Result<String, Fault<'a>> {
+/// A text of the only file, or why it is not shown.
+fn shown(text: Result<String, ShowFault>) -> Result<String, Fault> {
     match text {
         Ok(text) => Ok(text),
-        Err(fault) => Err(Fault::Tool(ToolFault::Show { name, fault })),
+        Err(fault) => Err(Fault::of(What::Show(fault), ONLY)),
     }
 }

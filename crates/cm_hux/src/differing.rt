@@ -1,10 +1,9 @@
 //! What a component or a world in place of another breaks for users and hosts.
 
-use crate::conforming::signature_of;
 use cm_hux_diff::{Change, Difference, Effect, differences, replaces};
 use cm_hux_play::files::{
-    Ending, Escaped, Fault, Files, Object, ToValue, ToolFault, Unfit, UnfitReason, Value, kept,
-    load_bytes, of_file, read_bytes, tell, text_of, wit_help, world_help, world_of,
+    Ending, Escaped, Fault, Files, Object, ToValue, Value, Way, What, Whose, file_of, no_world,
+    read_bytes, tell, text_of, world_of,
 };
 use cm_hux_words::{DiffWords, Habits};
 use cm_tool_show::show;
@@ -15,17 +14,28 @@ use std::io::Write;
 /// What a WebAssembly file begins with; others are texts.
 const MAGIC: &[u8] = b"\0asm";
 
-/// The name of a file, and the bytes that it has.
+/// The number of a file, and the bytes that it has.
 #[derive(Drop)]
-struct Read<'a> {
-    name: &'a str,
+struct Read {
+    number: usize,
     bytes: Vec<u8>,
 }
 
-impl<'a> Read<'a> {
-    fn of<F: Files>(alloc: Global, files: &mut F, name: &'a str) -> Result<Read<'a>, Fault<'a>> {
-        let bytes = read_bytes(alloc, files, name)?;
-        Ok(Read { name, bytes })
+impl Read {
+    fn of<F: Files>(
+        alloc: Global,
+        files: &mut F,
+        name: &str,
+        number: usize,
+    ) -> Result<Read, Fault> {
+        match read_bytes(alloc, files, name, Whose::File(number)) {
+            Ok(bytes) => Ok(Read { number, bytes }),
+            Err(fault) => Err(fault),
+        }
+    }
+
+    fn whose(&self) -> Whose {
+        Whose::File(self.number)
     }
 
     fn is_text(&self) -> bool {
@@ -33,60 +43,41 @@ impl<'a> Read<'a> {
     }
 
     /// What the component of the file imports and exports, or the world of the text.
-    fn signature(&self, alloc: Global, world: Option<&'a str>) -> Result<Signature, Fault<'a>> {
+    fn signature(&self, alloc: Global, world: Option<&str>) -> Result<Signature, Fault> {
         match world {
             Some(world) if self.is_text() => self.world(alloc, world),
             _ => self.component(alloc),
         }
     }
 
-    fn component(&self, alloc: Global) -> Result<Signature, Fault<'a>> {
-        let loaded = load_bytes(alloc, self.name, self.bytes.to_vec(alloc)?)?;
-        signature_of(alloc, &loaded)
-    }
-
-    fn world(&self, alloc: Global, world: &'a str) -> Result<Signature, Fault<'a>> {
-        let text = match text_of(self.name, &self.bytes) {
-            Ok(text) => text,
-            Err(bad) => return Err(of_file(bad, String::new(alloc))),
-        };
-        match world_of(alloc, text, world) {
-            Ok(signature) => Ok(signature),
-            Err(reason) => Err(self.no_world(alloc, text, world, reason)),
+    fn component(&self, alloc: Global) -> Result<Signature, Fault> {
+        let bytes = self.bytes.to_vec(alloc)?;
+        match file_of(alloc, bytes, self.whose(), Way::Real) {
+            Ok(file) => file.signature(alloc, self.whose()),
+            Err(fault) => Err(fault),
         }
     }
 
-    /// The fault of a text that has no such world, with what it has.
-    fn no_world(
-        &self,
-        alloc: Global,
-        text: &str,
-        world: &'a str,
-        reason: UnfitReason,
-    ) -> Fault<'a> {
-        let tail = match reason {
-            UnfitReason::Wit(fault) => kept(alloc, wit_help(alloc, text, fault)),
-            UnfitReason::World(fault) => kept(alloc, world_help(alloc, text, fault)),
-            UnfitReason::Signature(_) | UnfitReason::Memory => String::new(alloc),
+    fn world(&self, alloc: Global, world: &str) -> Result<Signature, Fault> {
+        let text = match text_of(&self.bytes) {
+            Ok(text) => text,
+            Err(what) => return Err(Fault::of(what, self.whose())),
         };
-        let unfit = Unfit {
-            wit: self.name,
-            world,
-            file: self.name,
-            reason,
-        };
-        Fault::Tool(ToolFault::Unfit { unfit, tail })
+        match world_of(alloc, text, world) {
+            Ok(signature) => Ok(signature),
+            Err(reason) => Err(no_world(alloc, text, reason, self.whose())),
+        }
     }
 }
 
 /// Prints what differs, a line each, and for whom it breaks something, and `ok` where for nobody.
-pub(crate) fn run_diff<'a, F: Files, O: Write>(
+pub(crate) fn run_diff<F: Files, O: Write>(
     alloc: Global,
-    words: &DiffWords<'a>,
+    words: &DiffWords<'_>,
     habits: Habits,
     files: &mut F,
     out: &mut O,
-) -> Result<Ending, Fault<'a>> {
+) -> Result<Ending, Fault> {
     let both = Both::read(alloc, words, files)?;
     let telling = Telling { alloc, habits };
     let is_broken = telling.tell_both(&both, out)?;
@@ -100,36 +91,24 @@ pub(crate) fn run_diff<'a, F: Files, O: Write>(
 
 /// What two files import and export.
 #[derive(Drop)]
-struct Both<'a> {
-    old_name: &'a str,
-    new_name: &'a str,
+struct Both {
     old: Signature,
     new: Signature,
 }
 
-impl<'a> Both<'a> {
-    fn read<F: Files>(
-        alloc: Global,
-        words: &DiffWords<'a>,
-        files: &mut F,
-    ) -> Result<Both<'a>, Fault<'a>> {
-        let old = Read::of(alloc, files, words.old)?;
-        let new = Read::of(alloc, files, words.new)?;
-        Both::of(alloc, &old, &new, &words.worlds)
+impl Both {
+    fn read<F: Files>(alloc: Global, words: &DiffWords<'_>, files: &mut F) -> Result<Both, Fault> {
+        let [old, new] = words.files;
+        let old = Read::of(alloc, files, old, 0)?;
+        let new = Read::of(alloc, files, new, 1)?;
+        Both::of(alloc, &old, &new, words)
     }
 
-    fn of(
-        alloc: Global,
-        old: &Read<'a>,
-        new: &Read<'a>,
-        worlds: &[&'a str],
-    ) -> Result<Both<'a>, Fault<'a>> {
-        let (of_old, of_new) = worlds_of(alloc, old, new, worlds)?;
+    fn of(alloc: Global, old: &Read, new: &Read, words: &DiffWords<'_>) -> Result<Both, Fault> {
+        let (of_old, of_new) = worlds_of(alloc, old, new, words)?;
         let before = old.signature(alloc, of_old)?;
         let after = new.signature(alloc, of_new)?;
         Ok(Both {
-            old_name: old.name,
-            new_name: new.name,
             old: before,
             new: after,
         })
@@ -140,40 +119,42 @@ impl<'a> Both<'a> {
 /// that was named.
 fn worlds_of<'a>(
     alloc: Global,
-    old: &Read<'a>,
-    new: &Read<'a>,
-    worlds: &[&'a str],
-) -> Result<(Option<&'a str>, Option<&'a str>), Fault<'a>> {
-    match (old.is_text(), new.is_text(), worlds) {
+    old: &Read,
+    new: &Read,
+    words: &DiffWords<'a>,
+) -> Result<(Option<&'a str>, Option<&'a str>), Fault> {
+    match (old.is_text(), new.is_text(), words.worlds.as_slice()) {
         (false, false, []) => Ok((None, None)),
         (true, false, [world]) => Ok((Some(*world), None)),
         (false, true, [world]) => Ok((None, Some(*world))),
         (true, true, [world]) => Ok((Some(*world), Some(*world))),
         (true, true, [first, second]) => Ok((Some(*first), Some(*second))),
-        (_, _, []) => Err(no_world_named(alloc, if old.is_text() { old.name } else { new.name })?),
+        (is_text, _, []) => Err(no_world_named(alloc, words.files, is_text)?),
         _ => Err(many_worlds(alloc)?),
     }
 }
 
-fn no_world_named(alloc: Global, name: &str) -> Result<Fault<'static>, Fault<'static>> {
-    let name = Escaped(name);
-    Ok(Fault::Usage(format!(in alloc;
+/// The fault of a text whose world is not named: the old file, or else the new one.
+fn no_world_named(alloc: Global, files: [&str; 2], is_old: bool) -> Result<Fault, Fault> {
+    let [old, new] = files;
+    let name = Escaped(if is_old { old } else { new });
+    Ok(Fault::usage(format!(in alloc;
         "error: {name} is a text, of which --world names the world\n"
     )?))
 }
 
-fn many_worlds(alloc: Global) -> Result<Fault<'static>, Fault<'static>> {
-    Ok(Fault::Usage(String::from_str(
+fn many_worlds(alloc: Global) -> Result<Fault, Fault> {
+    Ok(Fault::usage(String::from_str(
         alloc,
         "error: --world names more worlds than there are texts\n",
     )?))
 }
 
-/// The text that shows a signature.
-fn shown<'a>(alloc: Global, name: &'a str, of: &Signature) -> Result<String, Fault<'a>> {
+/// The text that shows the signature of the file of a number.
+fn shown(alloc: Global, number: usize, of: &Signature) -> Result<String, Fault> {
     match show(alloc, of) {
         Ok(text) => Ok(text),
-        Err(fault) => Err(Fault::Tool(ToolFault::Show { name, fault })),
+        Err(fault) => Err(Fault::of(What::Show(fault), Whose::File(number))),
     }
 }
 
@@ -186,20 +167,20 @@ struct Telling {
 
 impl Telling {
     /// Prints what differs between the two, and answers whether something is broken.
-    fn tell_both<'a, O: Write>(self, both: &Both<'a>, out: &mut O) -> Result<bool, Fault<'a>> {
-        let old = shown(self.alloc, both.old_name, &both.old)?;
-        let new = shown(self.alloc, both.new_name, &both.new)?;
+    fn tell_both<O: Write>(self, both: &Both, out: &mut O) -> Result<bool, Fault> {
+        let old = shown(self.alloc, 0, &both.old)?;
+        let new = shown(self.alloc, 1, &both.new)?;
         self.tell_texts(both, &old, &new, out)
     }
 
     /// Prints what differs between the two, which these texts show.
-    fn tell_texts<'a, O: Write>(
+    fn tell_texts<O: Write>(
         self,
-        both: &Both<'a>,
+        both: &Both,
         old: &str,
         new: &str,
         out: &mut O,
-    ) -> Result<bool, Fault<'a>> {
+    ) -> Result<bool, Fault> {
         let broken = replaces(self.alloc, &both.old, &both.new)?;
         let found = differences(self.alloc, old, new, &broken)?;
         self.tell_differences(&found, out)?;
@@ -211,7 +192,7 @@ impl Telling {
         self,
         found: &[Difference<'_>],
         out: &mut O,
-    ) -> Result<(), Fault<'static>> {
+    ) -> Result<(), Fault> {
         for difference in found {
             if !self.habits.quiet || difference.effect.breaks() {
                 self.tell_difference(difference, out)?;
@@ -224,7 +205,7 @@ impl Telling {
         self,
         difference: &Difference<'_>,
         out: &mut O,
-    ) -> Result<(), Fault<'static>> {
+    ) -> Result<(), Fault> {
         if self.habits.json {
             return tell(difference_object(self.alloc, difference)?, out);
         }
@@ -233,7 +214,7 @@ impl Telling {
     }
 
     /// Prints `ok` where nothing is broken.
-    fn tell_end<O: Write>(self, is_broken: bool, out: &mut O) -> Result<(), Fault<'static>> {
+    fn tell_end<O: Write>(self, is_broken: bool, out: &mut O) -> Result<(), Fault> {
         if self.habits.json {
             tell(Object::new(self.alloc).with("ok", !is_broken)?, out)?;
         } else if !is_broken && !self.habits.quiet {

@@ -5,16 +5,16 @@
 
 mod bundling;
 mod commands;
-mod conforming;
 mod differing;
 mod explaining;
+mod naming;
 mod objects;
 mod stubbing;
 
 pub use cm_hux_json::{CoreRow, core_row, core_text};
 pub use cm_hux_play::files::{
-    Disk, DiskStreams, Ending, Fault, FileFault, Files, Loaded, Streams, ToolFault, load_file,
-    report, words_of,
+    Disk, DiskStreams, Ending, Fault, File, FileFault, Files, Streams, Told, Way, What, Whose,
+    Words, load_file, report, words_of,
 };
 pub use cm_hux_show::show_world;
 pub use commands::run_hux;

@@ -1,7 +1,8 @@
 //! What commands do, told as objects.
 
 use cm_hux_play::files::{
-    Asked, Bundle, Checked, Fault, Linked, Object, Value, fault_object, open_imports, tell,
+    Asked, Bundle, Checked, Fault, Linked, Object, Told, Value, Words, fault_object, open_imports,
+    tell,
 };
 use std::alloc::{AllocError, Global};
 use std::io::Write;
@@ -9,15 +10,16 @@ use std::io::Write;
 /// Of each file whether it is a valid component, and else what is wrong with it.
 pub(crate) fn checked_object(
     alloc: Global,
+    words: Words<'_, '_>,
     name: &str,
-    checked: &Result<(), Fault<'_>>,
+    checked: &Result<(), Fault>,
 ) -> Result<Object, AllocError> {
     let object = Object::new(alloc).with("file", name)?;
     match checked {
         Ok(()) => object.with("ok", true),
         Err(fault) => {
             let object = object.with("ok", false)?;
-            object.with("fault", fault_object(alloc, fault)?)
+            object.with("fault", fault_object(alloc, Told { fault, words })?)
         }
     }
 }
@@ -27,7 +29,7 @@ pub(crate) fn tell_fit<O: Write>(
     alloc: Global,
     asked: Asked<'_>,
     out: &mut O,
-) -> Result<(), Fault<'static>> {
+) -> Result<(), Fault> {
     let object = Object::new(alloc).with("file", asked.file)?;
     let object = object.with("wit", asked.wit)?.with("world", asked.world)?;
     tell(object.with("ok", true)?, out)?;
@@ -41,7 +43,7 @@ pub(crate) fn tell_written<O: Write>(
     name: &str,
     bytes: usize,
     out: &mut O,
-) -> Result<(), Fault<'static>> {
+) -> Result<(), Fault> {
     let object = Object::new(alloc).with("written", name)?;
     tell(object.with("bytes", bytes)?, out)?;
     out.flush()?;
@@ -83,7 +85,7 @@ pub(crate) fn tell_plan<O: Write>(
     alloc: Global,
     linked: &Linked<'_>,
     out: &mut O,
-) -> Result<(), Fault<'static>> {
+) -> Result<(), Fault> {
     for line in linked.plan() {
         let import = import_name(linked, line.importer, line.import);
         let export = export_name(linked, line.provider, line.export);
@@ -102,7 +104,7 @@ pub(crate) fn tell_open<O: Write>(
     alloc: Global,
     components: &[Checked<'_>],
     out: &mut O,
-) -> Result<(), Fault<'static>> {
+) -> Result<(), Fault> {
     for open in open_imports(alloc, components)? {
         tell(
             import_object(alloc, (open.component, open.name), None)?,
@@ -118,7 +120,7 @@ pub(crate) fn tell_arguments<O: Write>(
     alloc: Global,
     bundle: &Bundle<'_>,
     out: &mut O,
-) -> Result<(), Fault<'static>> {
+) -> Result<(), Fault> {
     for (number, part) in bundle.parts.iter().enumerate() {
         for argument in &part.arguments {
             let served = Some((argument.export.part, argument.export.name));

@@ -4,7 +4,7 @@ use crate::objects::tell_written;
 use cm_binary::encode;
 use cm_binary_model::Component;
 use cm_hux_play::files::{
-    Ending, Fault, Files, Streams, StubFault, caller_for, load_files, provider_for,
+    Ending, Fault, Files, Streams, StubFault, Way, What, caller_for, load_files, provider_for,
     refuse_to_overwrite, write_file,
 };
 use cm_hux_words::{Habits, StubWords};
@@ -13,14 +13,14 @@ use std::io::Write;
 
 /// Writes a component that exports what the first of these files imports, or one that imports what
 /// the last exports.
-pub(crate) fn run_stub<'a, F: Files, S: Streams, O: Write>(
+pub(crate) fn run_stub<F: Files, S: Streams, O: Write>(
     alloc: Global,
-    words: &StubWords<'a>,
+    words: &StubWords<'_>,
     habits: Habits,
     files: &mut F,
     streams: &mut S,
     out: &mut O,
-) -> Result<Ending, Fault<'a>> {
+) -> Result<Ending, Fault> {
     refuse_to_overwrite(alloc, words.out, &words.files)?;
     let bytes = stub_bytes(alloc, words, files)?;
     write_file(alloc, streams, words.out, &bytes)?;
@@ -31,12 +31,12 @@ pub(crate) fn run_stub<'a, F: Files, S: Streams, O: Write>(
 }
 
 /// The bytes of the component.
-fn stub_bytes<'a, F: Files>(
+fn stub_bytes<F: Files>(
     alloc: Global,
-    words: &StubWords<'a>,
+    words: &StubWords<'_>,
     files: &mut F,
-) -> Result<Vec<u8>, Fault<'a>> {
-    let (loaded, unread) = load_files(alloc, files, &words.files);
+) -> Result<Vec<u8>, Fault> {
+    let (loaded, unread) = load_files(alloc, files, &words.files, Way::Real);
     if let Some(fault) = unread {
         return Err(fault);
     }
@@ -45,11 +45,7 @@ fn stub_bytes<'a, F: Files>(
     Ok(encode(alloc, &stub)?)
 }
 
-fn stub(
-    alloc: Global,
-    components: &[Component],
-    caller: bool,
-) -> Result<Component, Fault<'static>> {
+fn stub(alloc: Global, components: &[Component], caller: bool) -> Result<Component, Fault> {
     let stub = if caller {
         caller_for(alloc, components)
     } else {
@@ -57,7 +53,7 @@ fn stub(
     };
     match stub {
         Ok(stub) => Ok(stub),
-        Err(StubFault::Memory) => Err(Fault::Memory),
-        Err(fault) => Err(Fault::Stub(fault)),
+        Err(StubFault::Memory) => Err(Fault::from(What::Memory)),
+        Err(fault) => Err(Fault::from(What::Stub(fault))),
     }
 }

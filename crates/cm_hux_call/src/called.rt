@@ -3,7 +3,7 @@
 use crate::call_text::CallText;
 use crate::passing::{PassFault, Passed};
 use cm_host_values::ValuesFault;
-use cm_hux_drive::files::{Checked, Fault, Functions};
+use cm_hux_drive::files::{Checked, Fault, Functions, What};
 use cm_types::{Func, Value};
 use cm_types_arena::Types;
 use cm_validate_spaces::{CoreFuncEntry, MadeFunc};
@@ -47,11 +47,11 @@ pub(crate) struct Called<'f> {
 
 impl<'f> Called<'f> {
     /// The call that a text says, of a function that a caller imports.
-    pub(crate) fn of<'a>(
+    pub(crate) fn of(
         alloc: Global,
-        call: &CallText<'a>,
+        call: &CallText<'_>,
         caller: &'f Checked<'_>,
-    ) -> Result<Called<'f>, Fault<'a>> {
+    ) -> Result<Called<'f>, Fault> {
         let functions = Functions::of(alloc, caller)?;
         let Some(imported) = imported_func(&functions, call.name.as_str()) else {
             return Err(call.refuse(alloc, "the last file exports no such function")?);
@@ -64,15 +64,17 @@ impl<'f> Called<'f> {
 }
 
 /// The guest that makes a call.
-fn pass<'a>(
+fn pass(
     alloc: Global,
-    call: &CallText<'a>,
+    call: &CallText<'_>,
     imported: Imported<'_>,
     args: &[Value],
-) -> Result<Passed, Fault<'a>> {
+) -> Result<Passed, Fault> {
     match Passed::new(alloc, imported.core_func, imported.func, args) {
         Ok(passed) => Ok(passed),
-        Err(PassFault::Memory | PassFault::Values(ValuesFault::Memory)) => Err(Fault::Memory),
+        Err(PassFault::Memory | PassFault::Values(ValuesFault::Memory)) => {
+            Err(Fault::from(What::Memory))
+        }
         Err(PassFault::Values(ValuesFault::WrongTypes)) => {
             Err(call.refuse(alloc, "arguments with handles, which nobody gave")?)
         }

@@ -1,7 +1,6 @@
 //! The drives of a call: those of a script, and behind them the call.
 
-use cm_hux_drive::files::{Ending, Fault, LIMIT, Stop, ToolFault};
-use cm_hux_drive::lines::Drive;
+use cm_hux_drive::files::{Drive, Ending, Fault, Stop, What};
 use cm_hux_drive::{
     Checks, DriveEnd, HuxScript, Misuse, Moment, Printer, Script, Seat, Set, Watching, seats_of,
 };
@@ -24,11 +23,7 @@ pub(crate) struct Drives {
 impl Drives {
     /// Those of a script, whose roots have to be files, and behind them that of a caller, whose
     /// guest this is.
-    pub(crate) fn new(
-        alloc: Global,
-        script: HuxScript,
-        guest: Seat,
-    ) -> Result<Drives, Fault<'static>> {
+    pub(crate) fn new(alloc: Global, script: HuxScript, guest: Seat) -> Result<Drives, Fault> {
         let HuxScript { script, checks } = script;
         let Script {
             pages: _,
@@ -77,7 +72,7 @@ impl Drives {
 }
 
 /// Refuses drives whose root is none of the files, but the caller behind them, or nothing.
-fn are_of_files(begins: &[u32], components: usize) -> Result<(), Fault<'static>> {
+fn are_of_files(begins: &[u32], components: usize) -> Result<(), Fault> {
     for (index, root) in begins.iter().enumerate() {
         if *root as usize >= components {
             let drive = Drive {
@@ -86,7 +81,7 @@ fn are_of_files(begins: &[u32], components: usize) -> Result<(), Fault<'static>>
                 components,
             };
             let misuse = Misuse::NoInstance;
-            return Err(Fault::Tool(ToolFault::Begin { misuse, drive }));
+            return Err(Fault::from(What::Begin { misuse, drive }));
         }
     }
     Ok(())

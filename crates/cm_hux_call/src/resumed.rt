@@ -1,6 +1,6 @@
 //! What a call is answered with.
 
-use cm_hux_drive::files::{Escaped, Fault, Object, Stop, tell, tell_fault, told};
+use cm_hux_drive::files::{Escaped, Object, Stop, Told, tell, tell_fault, told};
 use cm_hux_drive::{Event, Move, Printer, Set};
 use cm_machine_model::Flat;
 use std::alloc::Global;
@@ -94,9 +94,9 @@ impl<O: Write> Printer for Resumed<'_, O> {
         Ok(())
     }
 
-    fn refused(&mut self, fault: &Fault<'_>) -> Result<(), Stop> {
+    fn refused(&mut self, refusal: Told<'_, '_, '_>) -> Result<(), Stop> {
         if self.json {
-            told(tell_fault(self.alloc, fault, self.out))?;
+            told(tell_fault(self.alloc, refusal, self.out))?;
         }
         Ok(())
     }

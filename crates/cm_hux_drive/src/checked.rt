@@ -5,10 +5,9 @@ use crate::printer::Printer;
 use crate::seat::{Seat, seats_of};
 use crate::traps::tell_trap;
 use cm_hux_explain::{KeptMove, Trap};
-use cm_hux_files::{Ending, Fault, LIMIT, Stop, ToolFault, report};
+use cm_hux_files::{Drive, Ending, Fault, LIMIT, Stop, What, report};
 use cm_hux_script::{HuxScript, Moment, Script};
 use cm_machine::{Event, Move, Player, Set, Watcher};
-use cm_tool_lines::Drive;
 use std::alloc::Global;
 use std::io::Write;
 
@@ -86,7 +85,7 @@ impl<'w, P: Printer, E: Write> Watching<'w, P, E> {
                 is_ended: matches!(last, Event::Ended),
             }),
             Err(misuse) => Ok(DriveEnd {
-                ending: self.refuse(&Fault::Tool(ToolFault::Begin { misuse, drive }))?,
+                ending: self.refuse(What::Begin { misuse, drive })?,
                 is_ended: false,
             }),
         }
@@ -101,7 +100,7 @@ impl<'w, P: Printer, E: Write> Watching<'w, P, E> {
             Event::Trapped(trap) => Ok(self.trapped(*trap)),
             _ => {
                 let limit = LIMIT;
-                self.refuse(&Fault::Tool(ToolFault::Limit { limit, drive }))
+                self.refuse(What::Unended { limit, drive })
             }
         }
     }
@@ -117,9 +116,10 @@ impl<'w, P: Printer, E: Write> Watching<'w, P, E> {
         Ending::Trapped
     }
 
-    fn refuse(&mut self, fault: &Fault<'_>) -> Result<Ending, Stop> {
-        report(self.err, fault);
-        self.printer.refused(fault)?;
+    fn refuse(&mut self, what: What) -> Result<Ending, Stop> {
+        let fault = Fault::from(what);
+        report(self.err, fault.unnamed());
+        self.printer.refused(fault.unnamed())?;
         Ok(Ending::Refused)
     }
 

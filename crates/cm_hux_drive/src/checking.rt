@@ -199,9 +199,9 @@ impl Checks {
         err: &mut E,
     ) -> Result<(), Stop> {
         self.has_failed = true;
-        let fault = Fault::Refused(format!(in self.alloc; "script line {line}: {text}")?);
-        report(err, &fault);
-        printer.refused(&fault)
+        let fault = Fault::refused(format!(in self.alloc; "script line {line}: {text}")?);
+        report(err, fault.unnamed());
+        printer.refused(fault.unnamed())
     }
 
     /// Tells of what was expected at moments that did not come, in the order of the lines. What was

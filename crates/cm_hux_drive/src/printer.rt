@@ -1,6 +1,6 @@
 //! Who prints a play.
 
-use cm_hux_files::{Fault, Stop};
+use cm_hux_files::{Stop, Told};
 use cm_machine::{Event, Move, Set};
 
 /// Prints a play: each drive that begins, and then each move before it is made, and each event, in
@@ -23,5 +23,5 @@ pub trait Printer {
 
     /// A drive is refused, or has reached its limit, or a check has failed, which standard error
     /// has a line of.
-    fn refused(&mut self, fault: &Fault<'_>) -> Result<(), Stop>;
+    fn refused(&mut self, refusal: Told<'_, '_, '_>) -> Result<(), Stop>;
 }

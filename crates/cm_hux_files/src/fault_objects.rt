@@ -1,12 +1,9 @@
 //! Faults as objects.
 
-use crate::fault::Fault;
-use crate::trouble::Trouble;
-use cm_hux_json::{Object, Value, first_word};
-use cm_stubs::StubFault;
-use cm_tool_commands::{
-    BadFile, Fault as ToolFault, FileReason, LinkFault, Unfit, UnfitReason, ValidFault,
+use cm_files::{
+    Drive, Fault, LinkFault, StubFault, Told, UnfitReason, ValidFault, What, Whose, Words,
 };
+use cm_hux_json::{Object, Value, first_word};
 use std::alloc::{AllocError, Global};
 use std::io::Write;
 use std::str;
@@ -17,27 +14,27 @@ use std::str;
 /// not there.
 ///
 /// `AllocError` comes where there is no memory.
-pub fn fault_object(alloc: Global, fault: &Fault<'_>) -> Result<Value, AllocError> {
-    let object = with_fault(Object::new(alloc), fault)?;
-    let object = object.with("status", fault.ending().status())?;
-    let text = format!(in alloc; "{fault}")?;
+pub fn fault_object(alloc: Global, told: Told<'_, '_, '_>) -> Result<Value, AllocError> {
+    let object = with_fault(Object::new(alloc), told)?;
+    let object = object.with("status", told.fault.ending().status())?;
+    let text = format!(in alloc; "{told}")?;
     Ok(object.with("text", bare(text.as_str()))?.value())
 }
 
 /// Writes a fault as a line, `{"fault":{..}}`.
 pub fn tell_fault<O: Write>(
     alloc: Global,
-    fault: &Fault<'_>,
+    told: Told<'_, '_, '_>,
     out: &mut O,
-) -> Result<(), Fault<'static>> {
-    let object = Object::new(alloc).with("fault", fault_object(alloc, fault)?)?;
+) -> Result<(), Fault> {
+    let object = Object::new(alloc).with("fault", fault_object(alloc, told)?)?;
     tell(object, out)?;
     out.flush()?;
     Ok(())
 }
 
 /// Writes an object as a line.
-pub fn tell<O: Write>(object: Object, out: &mut O) -> Result<(), Fault<'static>> {
+pub fn tell<O: Write>(object: Object, out: &mut O) -> Result<(), Fault> {
     let line = object.line()?;
     out.write_all(line.as_bytes())?;
     Ok(())
@@ -49,7 +46,7 @@ pub fn tell_bytes<O: Write>(
     name: &str,
     bytes: &[u8],
     out: &mut O,
-) -> Result<(), Fault<'static>> {
+) -> Result<(), Fault> {
     let text = str::from_utf8(bytes).unwrap_or("");
     tell(Object::new(alloc).with(name, text)?, out)?;
     out.flush()?;
@@ -62,35 +59,73 @@ fn bare(text: &str) -> &str {
     text.strip_prefix("error: ").unwrap_or(text)
 }
 
-fn with_fault(object: Object, fault: &Fault<'_>) -> Result<Object, AllocError> {
-    match fault {
-        Fault::Usage(_) => object.with("name", "Usage"),
-        Fault::Plain { name, fault } => {
+/// With what a fault is of, and its place.
+fn with_fault(object: Object, told: Told<'_, '_, '_>) -> Result<Object, AllocError> {
+    let Fault { what, whose, .. } = told.fault;
+    let name = told.words.name(*whose);
+    match what {
+        What::Unread(_)
+        | What::Decode { .. }
+        | What::NoText(_)
+        | What::NoBundle(_)
+        | What::NotValid(_)
+        | What::Unmet(_)
+        | What::Plain(_)
+        | What::Limit(_)
+        | What::Show(_) => with_file_fault(object.with("file", name)?, *what),
+        What::Unfit(reason) => with_unfit(object, told.words, *whose, *reason),
+        What::OtherLinks => object.with("name", "OtherLinks")?.with("file", name),
+        What::Unwritten(_) => object.with("name", "Write")?.with("file", name),
+        What::Refused => with_line(object, told.fault.tail()),
+        _ => with_fault_of_nobody(object, *what),
+    }
+}
+
+/// With what a file is at fault with.
+fn with_file_fault(object: Object, what: What) -> Result<Object, AllocError> {
+    match what {
+        What::Unread(fault) => {
+            object.with_reason("FileFault", fault.name(), fault.number(), &fault)
+        }
+        What::Decode { fault, .. } => {
             let number = fault.reason.number();
-            let object = object.with_derived("ShimReason", &fault.reason, number)?;
-            with_item(object.with("file", *name)?, fault.section, fault.item)
+            let object = object.with_derived("DecodeReason", &fault.reason, number)?;
+            object.with("at", fault.at)
         }
-        Fault::Limit { name, fault } => {
-            let object = object.with_derived("LimitFault", fault, fault.number())?;
-            object.with("file", *name)
+        What::NoText(fault) => {
+            let shown = object.shown(&fault)?;
+            let name = first_word(shown.as_str());
+            let object = object.with("kind", "TextFileFault")?.with("name", name)?;
+            object
+                .with("number", fault.number())?
+                .with("at", fault.place())
         }
-        Fault::Unmet { name, fault } => {
+        What::NoBundle(fault) => {
+            let number = fault.reason.number();
+            let object = object.with_derived("BundleReason", &fault.reason, number)?;
+            object.with("at", fault.at)
+        }
+        _ => with_component_fault(object, what),
+    }
+}
+
+/// With what the component of a file is at fault with.
+fn with_component_fault(object: Object, what: What) -> Result<Object, AllocError> {
+    match what {
+        What::NotValid(fault) => with_valid_fault(object, &fault),
+        What::Unmet(fault) => {
             let number = fault.reason.number();
             let object = object.with_derived("FitReason", &fault.reason, number)?;
-            object.with("file", *name)?.with("want", fault.want)
+            object.with("want", fault.want)
         }
-        Fault::Stub(fault) => with_stub_fault(object, fault),
-        Fault::Bundle(trouble) => with_trouble(object, trouble),
-        Fault::Unwritten { name, .. } => object.with("name", "Write")?.with("file", *name),
-        Fault::Input => object.with("name", "Input"),
-        Fault::Moves { limit } => object.with("name", "Limit")?.with("limit", *limit),
-        Fault::Refused(text) => {
-            let line = line_number(text.as_str());
-            object.with("name", "Refused")?.with("line", line)
+        What::Plain(fault) => {
+            let number = fault.reason.number();
+            let object = object.with_derived("ShimReason", &fault.reason, number)?;
+            with_item(object, fault.section, fault.item)
         }
-        Fault::Tool(fault) => with_tool_fault(object, fault),
-        Fault::Memory => object.with("name", "Memory"),
-        Fault::Output => object.with("name", "Write"),
+        What::Limit(fault) => object.with_derived("LimitFault", &fault, fault.number()),
+        What::Show(fault) => object.with_derived("ShowFault", &fault, fault.number()),
+        _ => Ok(object),
     }
 }
 
@@ -123,52 +158,42 @@ fn with_stub_fault(object: Object, fault: &StubFault) -> Result<Object, AllocErr
     }
 }
 
-fn with_trouble(object: Object, trouble: &Trouble<'_>) -> Result<Object, AllocError> {
-    match trouble {
-        Trouble::NotMade(fault) => object.with_shown("meaning", fault)?.with("name", "NotMade"),
-        Trouble::ImportsType { component } => object
+/// With what no file alone is at fault with.
+fn with_fault_of_nobody(object: Object, what: What) -> Result<Object, AllocError> {
+    match what {
+        What::Usage => object.with("name", "Usage"),
+        What::Link { fault, .. } => with_link_fault(object, &fault),
+        What::NotMade(fault) => object
+            .with_shown("meaning", &fault)?
+            .with("name", "NotMade"),
+        What::ImportsType { component } => object
             .with("name", "ImportsType")?
-            .with("component", *component),
-        Trouble::NoBundle { name, fault } => {
-            let number = fault.reason.number();
-            let object = object.with_derived("BundleReason", &fault.reason, number)?;
-            object.with("file", *name)?.with("at", fault.at)
+            .with("component", component),
+        What::Stub(fault) => with_stub_fault(object, &fault),
+        What::Set { misuse, .. } => object.with_derived("Misuse", &misuse, misuse.number()),
+        What::Begin { misuse, drive } => {
+            let object = object.with_derived("Misuse", &misuse, misuse.number())?;
+            with_drive(object, drive)
         }
-        Trouble::OtherLinks { name } => object.with("name", "OtherLinks")?.with("file", *name),
-        Trouble::Memory => object.with("name", "Memory"),
+        What::Unended { limit, drive } => {
+            let object = object.with("name", "Limit")?.with("limit", limit)?;
+            with_drive(object, drive)
+        }
+        What::Moves { limit } => object.with("name", "Limit")?.with("limit", limit),
+        What::Input => object.with("name", "Input"),
+        What::Memory => object.with("name", "Memory"),
+        _ => object.with("name", "Write"),
     }
 }
 
-fn with_tool_fault(object: Object, fault: &ToolFault<'_>) -> Result<Object, AllocError> {
-    match fault {
-        ToolFault::Usage(_) => object.with("name", "Usage"),
-        ToolFault::Memory => object.with("name", "Memory"),
-        ToolFault::File { bad, .. } => with_bad_file(object, bad),
-        ToolFault::Show { name, fault } => {
-            let object = object.with_derived("ShowFault", fault, fault.number())?;
-            object.with("file", *name)
-        }
-        ToolFault::Unfit { unfit, .. } => with_unfit(object, unfit),
-        ToolFault::Link { fault, .. } => with_link_fault(object, fault),
-        ToolFault::Script(_) => with_line(object.with("name", "Script")?, fault),
-        ToolFault::Set { misuse, .. } => object.with_derived("Misuse", misuse, misuse.number()),
-        ToolFault::Begin { misuse, drive } => {
-            let object = object.with_derived("Misuse", misuse, misuse.number())?;
-            object.with("drive", drive.index)?.with("root", drive.root)
-        }
-        ToolFault::Limit { limit, drive } => {
-            let object = object.with("name", "Limit")?.with("limit", *limit)?;
-            object.with("drive", drive.index)?.with("root", drive.root)
-        }
-        ToolFault::Output => object.with("name", "Write"),
-    }
+fn with_drive(object: Object, drive: Drive) -> Result<Object, AllocError> {
+    object.with("drive", drive.index)?.with("root", drive.root)
 }
 
-/// With the line of a script, whose number stands in what the fault is shown as.
-fn with_line(object: Object, fault: &ToolFault<'_>) -> Result<Object, AllocError> {
-    let shown = object.shown(fault)?;
-    let line = line_number(shown.as_str());
-    object.with("line", line)
+/// With the line of a script, whose number stands in what is refused.
+fn with_line(object: Object, text: &str) -> Result<Object, AllocError> {
+    let line = line_number(text);
+    object.with("name", "Refused")?.with("line", line)
 }
 
 fn line_number(shown: &str) -> Option<u64> {
@@ -177,47 +202,30 @@ fn line_number(shown: &str) -> Option<u64> {
     digits.parse::<u64>().ok()
 }
 
-fn with_bad_file(object: Object, bad: &BadFile<'_>) -> Result<Object, AllocError> {
-    let object = object.with("file", bad.name)?;
-    match &bad.reason {
-        FileReason::Unread(fault) => {
-            object.with_reason("FileFault", fault.name(), fault.number(), fault)
-        }
-        FileReason::NoComponent { fault, .. } => {
-            let number = fault.reason.number();
-            let object = object.with_derived("DecodeReason", &fault.reason, number)?;
-            object.with("at", fault.at)
-        }
-        FileReason::NotValid(fault) => with_valid_fault(object, fault),
-        FileReason::NoText(fault) => {
-            let shown = object.shown(fault)?;
-            let name = first_word(shown.as_str());
-            let object = object.with("kind", "TextFileFault")?.with("name", name)?;
-            object
-                .with("number", fault.number())?
-                .with("at", fault.place())
-        }
-    }
-}
-
-fn with_unfit(object: Object, unfit: &Unfit<'_>) -> Result<Object, AllocError> {
-    match &unfit.reason {
+fn with_unfit(
+    object: Object,
+    words: Words<'_, '_>,
+    whose: Whose,
+    reason: UnfitReason,
+) -> Result<Object, AllocError> {
+    let (file, world) = (words.name(whose), words.world(whose));
+    match reason {
         UnfitReason::Wit(fault) => {
             let reason = fault.reason;
             let (name, number) = (reason.name(), reason.number());
             let object = object.with_reason("WitReason", name, number, &reason)?;
-            object.with("file", unfit.wit)?.with("at", fault.at)
+            object.with("file", file)?.with("at", fault.at)
         }
         UnfitReason::World(fault) => {
-            let object = object.with_derived("WorldFault", fault, fault.number())?;
-            object.with("file", unfit.wit)?.with("world", unfit.world)
+            let object = object.with_derived("WorldFault", &fault, fault.number())?;
+            object.with("file", file)?.with("world", world)
         }
         UnfitReason::Signature(fault) => {
             let number = fault.reason.number();
             let object = object.with_derived("ConformReason", &fault.reason, number)?;
-            let object = object.with("file", unfit.file)?.with("world", unfit.world)?;
+            let object = object.with("file", file)?.with("world", world)?;
             object.with_shown("where", &fault.item)
         }
-        UnfitReason::Memory => object.with("name", "Memory")?.with("file", unfit.file),
+        UnfitReason::Memory => object.with("name", "Memory")?.with("file", file),
     }
 }

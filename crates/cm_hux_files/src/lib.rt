@@ -1,41 +1,29 @@
-//! Files, bundles, faults and endings, which the commands of `hux` share.
+//! Streams, stops and objects of faults, which the commands of `hux` share.
 //!
-//! Each reads component files that may have shims, as the standard tool chain writes them.
+//! What they read, judge and link is in `cm_files`.
 #![tactic(auto)]
 
-mod ending;
-mod fault;
+mod arguments;
 mod fault_objects;
 mod left_open;
-mod loading;
-mod making;
 mod stop;
 mod streams;
-mod taking;
-mod trouble;
-mod type_imports;
 
-pub use cm_bundle::Bundle;
-pub use cm_hux_json::{Object, ToValue, Value, event_object, line_of, signature_rows, type_text};
-pub use cm_stubs::{Component, StubFault, caller, caller_for, provider_for};
-pub use cm_tool_commands::{
-    Asked, Checked, Disk, Fault as ToolFault, FileFault, Files, LIMIT, Linked, Outcome, Unfit,
-    UnfitReason, Usage, checked_of, conform_component, link, read_file, signature, text_of,
-    words_of, world_of, write_plan,
+pub use arguments::write_arguments;
+pub use cm_files::{
+    Asked, Bundle, CALLER, Checked, Component, Disk, Drive, Ending, Fault, File, FileFault, Files,
+    LIMIT, Linked, LoadedFiles, SetSize, StubFault, Told, UsesLinked, Way, What, Whose, Words,
+    caller, caller_for, checked_of, conform, file_of, lend_linked, link, load_file, load_files,
+    made, no_world, provider_for, read_bundle, read_bytes, report, text_of, words_of, world_of,
+    write_plan,
 };
-pub use cm_tool_help_texts::{Escaped, wit_help, world_help};
-pub use cm_tool_help_types::conform_help;
-pub use cm_validate_functions::Functions;
-pub use ending::Ending;
-pub use fault::{Fault, report};
+pub use cm_hux_json::{
+    Functions, Object, ToValue, Value, event_object, line_of, signature_rows, type_text,
+};
+pub use cm_tool_help_texts::Escaped;
 pub use fault_objects::{fault_object, tell, tell_bytes, tell_fault};
 pub use left_open::open_imports;
-pub use loading::{
-    Loaded, LoadedFiles, kept, load_bytes, load_file, load_files, of_file, read_bytes,
-};
-pub use making::{made, write_arguments};
 pub use stop::{Stop, told};
 pub use streams::{
     DiskStreams, Streams, create, refuse_to_overwrite, unwritten, write_file, write_whole,
 };
-pub use taking::read_bundle;

@@ -1,6 +1,6 @@
 //! Why a play ends early.
 
-use crate::fault::Fault;
+use cm_files::{Fault, What};
 use std::alloc::{AllocError, AllocFailed};
 use std::io;
 
@@ -15,18 +15,18 @@ pub enum Stop {
 
 impl Stop {
     /// Why a play ends where writing a line ended in this fault.
-    pub fn of(fault: &Fault<'_>) -> Stop {
-        match fault {
-            Fault::Memory => Stop::Memory,
+    pub fn of(fault: &Fault) -> Stop {
+        match fault.what {
+            What::Memory => Stop::Memory,
             _ => Stop::Output,
         }
     }
 
     /// The fault of a command that ends so.
-    pub fn fault(self) -> Fault<'static> {
+    pub fn fault(self) -> Fault {
         match self {
-            Stop::Output => Fault::Output,
-            Stop::Memory => Fault::Memory,
+            Stop::Output => Fault::from(What::Output),
+            Stop::Memory => Fault::from(What::Memory),
         }
     }
 }
@@ -50,7 +50,7 @@ impl From<io::Error> for Stop {
 }
 
 /// What was told, or why it was not.
-pub fn told(told: Result<(), Fault<'_>>) -> Result<(), Stop> {
+pub fn told(told: Result<(), Fault>) -> Result<(), Stop> {
     match told {
         Ok(()) => Ok(()),
         Err(fault) => Err(Stop::of(&fault)),

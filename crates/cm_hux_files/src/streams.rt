@@ -1,6 +1,6 @@
 //! What `live` reads its lines from, and where files are written.
 
-use crate::fault::Fault;
+use cm_files::{Fault, What, Whose};
 use cm_tool_help_texts::Escaped;
 use std::alloc::Global;
 use std::io::{BufWriter, Input, Read, Write};
@@ -23,49 +23,40 @@ pub trait Streams {
 }
 
 /// A file of this name, with nothing in it.
-pub fn create<'a, S: Streams>(
-    alloc: Global,
-    streams: &mut S,
-    name: &'a str,
-) -> Result<S::Writer, Fault<'a>> {
+pub fn create<S: Streams>(alloc: Global, streams: &mut S, name: &str) -> Result<S::Writer, Fault> {
     match streams.create(alloc, name) {
         Ok(writer) => Ok(writer),
-        Err(error) => Err(unwritten(name, &error)),
+        Err(error) => Err(unwritten(&error)),
     }
 }
 
 /// Writes a file of this name, with these bytes in it.
-pub fn write_file<'a, S: Streams>(
+pub fn write_file<S: Streams>(
     alloc: Global,
     streams: &mut S,
-    name: &'a str,
+    name: &str,
     bytes: &[u8],
-) -> Result<(), Fault<'a>> {
+) -> Result<(), Fault> {
     match write_whole(alloc, streams, name, bytes) {
         Ok(()) => Ok(()),
-        Err(error) => Err(unwritten(name, &error)),
+        Err(error) => Err(unwritten(&error)),
     }
 }
 
 /// Refuses to write a file that is read too, since what it holds would be gone.
-pub fn refuse_to_overwrite(
-    alloc: Global,
-    name: &str,
-    files: &[&str],
-) -> Result<(), Fault<'static>> {
+pub fn refuse_to_overwrite(alloc: Global, name: &str, files: &[&str]) -> Result<(), Fault> {
     if files.contains(&name) {
         let name = Escaped(name);
-        return Err(Fault::Refused(format!(in alloc;
+        return Err(Fault::refused(format!(in alloc;
             "{name}: Write: it is one of the files that are read"
         )?));
     }
     Ok(())
 }
 
-/// The fault of a file of this name that cannot be written.
-pub fn unwritten<'a>(name: &'a str, error: &io::Error) -> Fault<'a> {
-    let kind = error.kind();
-    Fault::Unwritten { name, kind }
+/// The fault of what cannot be written.
+pub fn unwritten(error: &io::Error) -> Fault {
+    Fault::of(What::Unwritten(error.kind()), Whose::Written)
 }
 
 /// The same, with the error of what failed.

@@ -17,6 +17,7 @@ mod other_names;
 mod types;
 
 pub use cm_hux_show::type_text;
+pub use cm_validate_functions::Functions;
 pub use core_funcs::core_objects;
 pub use core_lines::core_text;
 pub use core_rows::{CoreRow, core_row};

@@ -2,12 +2,12 @@
 
 use crate::guarded::{Lines, MAX_LINE, Noted, ReadFault};
 use crate::hearing::Hearing;
-use crate::named::{component_names, file_names};
+use crate::named::component_names;
 use crate::planned::write_plan;
 use cm_hux_drive::files::{
-    Ending, Fault, Files, Linked, LoadedFiles, Streams, ToolFault, create, load_files, unwritten,
+    Ending, Fault, Files, Linked, LoadedFiles, SetSize, Streams, UsesLinked, Way, What, create,
+    lend_linked, load_files, unwritten,
 };
-use cm_hux_drive::lines::SetSize;
 use cm_hux_said::Watch;
 use cm_hux_words::{Habits, LiveWords};
 use cm_live::{Listener, Record, Served, Session, serve};
@@ -23,31 +23,67 @@ use std::io::{BufReader, Read, Write};
 ///
 /// Objects are not printed, and no file is standard input, which has the lines: such words are
 /// refused. Where the input ends within a line, or while a call is open, that is a fault.
-pub fn run_live<'a, F: Files, S: Streams, O: Write, E: Write>(
+pub fn run_live<'p, 'a, F: Files, S: Streams, O: Write, E: Write>(
     alloc: Global,
-    words: &LiveWords<'a>,
+    words: &'p LiveWords<'a>,
     habits: Habits,
     files: &mut F,
-    streams: &mut S,
-    out: &mut O,
-    err: &mut E,
-) -> Result<Ending, Fault<'a>> {
+    streams: &'p mut S,
+    out: &'p mut O,
+    err: &'p mut E,
+) -> Result<Ending, Fault> {
     check_words(alloc, words, habits)?;
     let limit = limit_of(alloc, words.limit)?;
-    let (loaded, unread) = load_files(alloc, files, &words.files);
-    let linked = loaded.link(alloc, unread)?;
-    let live = Live {
+    let (loaded, unread) = load_files(alloc, files, &words.files, Way::Real);
+    let mut living = Living {
         alloc,
-        loaded: &loaded,
-        linked: &linked,
+        words,
         limit,
         is_quiet: habits.quiet,
+        streams,
+        out,
+        err,
     };
-    live.run(words, streams, out, err)
+    lend_linked(alloc, &loaded, unread, &words.files, &mut living)
+}
+
+/// Plays what is linked line by line.
+#[derive(Drop)]
+struct Living<'p, 'a, S, O, E> {
+    alloc: Global,
+    words: &'p LiveWords<'a>,
+    /// The most moves.
+    limit: u64,
+    /// Whether traps are not told.
+    is_quiet: bool,
+    streams: &'p mut S,
+    out: &'p mut O,
+    err: &'p mut E,
+}
+
+impl<S: Streams, O: Write, E: Write> UsesLinked for Living<'_, '_, S, O, E> {
+    ghost use Rattle.std.specs.Prelude.{⊤};
+
+    type Answer = Ending;
+
+    // What is printed is said by no contract.
+    ghost uses = { λ _ _ _ _ _. ⊤ };
+
+    fn use_linked(&mut self, files: &LoadedFiles, linked: &Linked<'_>) -> Result<Ending, Fault> {
+        let live = Live {
+            alloc: self.alloc,
+            words: self.words,
+            loaded: files,
+            linked,
+            limit: self.limit,
+            is_quiet: self.is_quiet,
+        };
+        live.run(self.streams, self.out, self.err)
+    }
 }
 
 /// Refuses words that lines do not go with.
-fn check_words(alloc: Global, words: &LiveWords<'_>, habits: Habits) -> Result<(), Fault<'static>> {
+fn check_words(alloc: Global, words: &LiveWords<'_>, habits: Habits) -> Result<(), Fault> {
     let why = if habits.json {
         "--json: the lines of live have a form of their own"
     } else if words.files.iter().any(|name| *name == "-") {
@@ -55,14 +91,15 @@ fn check_words(alloc: Global, words: &LiveWords<'_>, habits: Habits) -> Result<(
     } else {
         return Ok(());
     };
-    Err(Fault::Usage(format!(in alloc; "error: {why}")?))
+    Err(Fault::usage(format!(in alloc; "error: {why}")?))
 }
 
 /// A linked set that is played line by line.
 #[derive(Clone, Copy)]
 struct Live<'l, 'b, 'a> {
     alloc: Global,
-    loaded: &'l LoadedFiles<'a>,
+    words: &'l LiveWords<'a>,
+    loaded: &'l LoadedFiles,
     linked: &'l Linked<'b>,
     /// The most moves.
     limit: u64,
@@ -70,36 +107,34 @@ struct Live<'l, 'b, 'a> {
     is_quiet: bool,
 }
 
-impl<'l, 'b, 'a> Live<'l, 'b, 'a> {
+impl<'l, 'b> Live<'l, 'b, '_> {
     fn run<S: Streams, O: Write, E: Write>(
         &self,
-        words: &LiveWords<'a>,
         streams: &mut S,
         out: &mut O,
         err: &mut E,
-    ) -> Result<Ending, Fault<'a>> {
-        let pages = pages(self.alloc, words.pages, self.linked)?;
+    ) -> Result<Ending, Fault> {
+        let pages = pages(self.alloc, self.words.pages, self.linked)?;
         let mut session = session(self.alloc, self.linked, &pages)?;
-        self.play(words, &mut session, pages, streams, out, err)
+        self.play(&mut session, pages, streams, out, err)
     }
 
     /// Prints what an engine needs, and plays the session, whose memories begin with these pages.
     fn play<S: Streams, O: Write, E: Write>(
         &self,
-        words: &LiveWords<'a>,
         session: &mut Session<'_, '_>,
         pages: Vec<u32>,
         streams: &mut S,
         out: &mut O,
         err: &mut E,
-    ) -> Result<Ending, Fault<'a>> {
-        let names = component_names(self.alloc, self.loaded)?;
-        let files = file_names(self.alloc, self.loaded)?;
-        write_plan(self.alloc, self.loaded, self.linked, out)?;
-        let watch = self.watch(words.values)?;
-        let mut record = record(self.alloc, words.record, pages, streams)?;
+    ) -> Result<Ending, Fault> {
+        let names = component_names(self.alloc, self.loaded, &self.words.files)?;
+        let files = self.loaded.owned_names(self.alloc, &self.words.files)?;
+        write_plan(self.alloc, self.loaded, &self.words.files, self.linked, out)?;
+        let watch = self.watch(self.words.values)?;
+        let mut record = record(self.alloc, self.words.record, pages, streams)?;
         let Ok(reader) = streams.reader(self.alloc) else {
-            return Err(Fault::Input);
+            return Err(Fault::from(What::Input));
         };
         let mut hearing = Hearing {
             watch,
@@ -108,16 +143,9 @@ impl<'l, 'b, 'a> Live<'l, 'b, 'a> {
             err,
         };
         let Ok(mut lines) = BufReader::new(self.alloc, Lines::new(reader)) else {
-            return Err(Fault::Memory);
+            return Err(Fault::from(What::Memory));
         };
-        self.serve(
-            session,
-            &mut lines,
-            words.record,
-            &mut record,
-            &mut hearing,
-            out,
-        )
+        self.serve(session, &mut lines, &mut record, &mut hearing, out)
     }
 
     /// Who watches what passes, where the values are wanted.
@@ -129,16 +157,15 @@ impl<'l, 'b, 'a> Live<'l, 'b, 'a> {
         }
     }
 
-    /// Plays the lines on the session, and records them where a record of this name is given.
-    fn serve<'n, R: Read, K: Write, L: Listener, O: Write>(
+    /// Plays the lines on the session, and records them where a record is given.
+    fn serve<R: Read, K: Write, L: Listener, O: Write>(
         &self,
         session: &mut Session<'_, '_>,
         lines: &mut BufReader<Lines<R>>,
-        name: Option<&'n str>,
         record: &mut Option<Record<K>>,
         listener: &mut L,
         out: &mut O,
-    ) -> Result<Ending, Fault<'n>> {
+    ) -> Result<Ending, Fault> {
         let alloc = self.alloc;
         let mut noted = Noted::new(out);
         match serve(
@@ -146,10 +173,11 @@ impl<'l, 'b, 'a> Live<'l, 'b, 'a> {
         ) {
             Ok(Served::Ended) => Ok(ended(alloc, session, lines.get_ref())?),
             Ok(Served::Trapped) => Ok(Ending::Trapped),
-            Ok(Served::Limit) => Err(Fault::Moves { limit: self.limit }),
+            Ok(Served::Limit) => Err(Fault::from(What::Moves { limit: self.limit })),
             Err(error) => {
                 let fault = lines.get_ref().fault();
-                Err(fault_of(alloc, &error, fault, noted.has_failed(), name)?)
+                let is_recorded = self.words.record.is_some();
+                Err(fault_of(alloc, &error, fault, noted.has_failed(), is_recorded)?)
             }
         }
     }
@@ -165,13 +193,13 @@ fn ended<R: Read>(
     alloc: Global,
     session: &Session<'_, '_>,
     lines: &Lines<R>,
-) -> Result<Ending, Fault<'static>> {
+) -> Result<Ending, Fault> {
     if lines.is_within_line() {
         let text = String::from_str(alloc, "standard input ends within a line")?;
-        return Err(Fault::Refused(text));
+        return Err(Fault::refused(text));
     }
     match session.acting() {
-        Some(instance) => Err(Fault::Refused(format!(in alloc;
+        Some(instance) => Err(Fault::refused(format!(in alloc;
             "standard input ends while a call is open, of component {instance}"
         )?)),
         None => Ok(Ending::Done),
@@ -179,34 +207,32 @@ fn ended<R: Read>(
 }
 
 /// Why serving failed, where reading has this fault, or none, and the output has failed or not. The
-/// moves are recorded to the file of this name, if there is one.
-fn fault_of<'n>(
+/// moves may be recorded to a file.
+fn fault_of(
     alloc: Global,
     error: &io::Error,
     fault: Option<ReadFault>,
     has_output_failed: bool,
-    record: Option<&'n str>,
-) -> Result<Fault<'n>, AllocError> {
-    match (fault, record) {
-        (Some(ReadFault::TooLong), _) => Ok(Fault::Refused(format!(in alloc;
+    is_recorded: bool,
+) -> Result<Fault, AllocError> {
+    match fault {
+        Some(ReadFault::TooLong) => Ok(Fault::refused(format!(in alloc;
             "standard input: a line has more than {MAX_LINE} bytes"
         )?)),
-        (Some(ReadFault::Failed), _) => Ok(Fault::Input),
-        (None, _) if has_output_failed => Ok(Fault::Output),
-        (None, Some(name)) if error.kind() != io::ErrorKind::OutOfMemory => {
-            Ok(unwritten(name, error))
-        }
-        (None, _) => Ok(Fault::Memory),
+        Some(ReadFault::Failed) => Ok(Fault::from(What::Input)),
+        None if has_output_failed => Ok(Fault::from(What::Output)),
+        None if is_recorded && error.kind() != io::ErrorKind::OutOfMemory => Ok(unwritten(error)),
+        None => Ok(Fault::from(What::Memory)),
     }
 }
 
 /// The record of a session whose memories begin with these pages, where one is chosen.
-fn record<'a, S: Streams>(
+fn record<S: Streams>(
     alloc: Global,
-    name: Option<&'a str>,
+    name: Option<&str>,
     pages: Vec<u32>,
     streams: &mut S,
-) -> Result<Option<Record<S::Writer>>, Fault<'a>> {
+) -> Result<Option<Record<S::Writer>>, Fault> {
     match name {
         Some(name) => Ok(Some(Record::new(create(alloc, streams, name)?, pages))),
         None => Ok(None),
@@ -214,43 +240,39 @@ fn record<'a, S: Streams>(
 }
 
 /// The most moves.
-fn limit_of(alloc: Global, word: Option<&str>) -> Result<u64, Fault<'static>> {
+fn limit_of(alloc: Global, word: Option<&str>) -> Result<u64, Fault> {
     match word {
         None => Ok(u64::MAX),
         Some(word) => match read_u64(word) {
             Some(limit) => Ok(limit),
-            None => Err(Fault::Usage(format!(in alloc; "error: --limit {word}: no number")?)),
+            None => Err(Fault::usage(format!(in alloc; "error: --limit {word}: no number")?)),
         },
     }
 }
 
 /// The pages of each component's memory.
-fn pages(
-    alloc: Global,
-    words: Option<&str>,
-    linked: &Linked<'_>,
-) -> Result<Vec<u32>, Fault<'static>> {
+fn pages(alloc: Global, words: Option<&str>, linked: &Linked<'_>) -> Result<Vec<u32>, Fault> {
     match words {
         Some(words) => given_pages(alloc, words),
         None => declared_pages(alloc, linked),
     }
 }
 
-fn given_pages(alloc: Global, words: &str) -> Result<Vec<u32>, Fault<'static>> {
+fn given_pages(alloc: Global, words: &str) -> Result<Vec<u32>, Fault> {
     let mut pages = Vec::new(alloc);
     for word in words.split(',') {
         match read_u32(word) {
             Some(count) => pages.push(count)?,
             None => {
                 let text = format!(in alloc; "error: --pages {words}: no numbers with , between")?;
-                return Err(Fault::Usage(text));
+                return Err(Fault::usage(text));
             }
         }
     }
     Ok(pages)
 }
 
-fn declared_pages(alloc: Global, linked: &Linked<'_>) -> Result<Vec<u32>, Fault<'static>> {
+fn declared_pages(alloc: Global, linked: &Linked<'_>) -> Result<Vec<u32>, Fault> {
     let mut pages = Vec::new(alloc);
     for checked in linked.components() {
         pages.push(pages_of(alloc, checked.component())?)?;
@@ -262,12 +284,12 @@ fn session<'c, 'b>(
     alloc: Global,
     linked: &'c Linked<'b>,
     pages: &[u32],
-) -> Result<Session<'c, 'b>, Fault<'static>> {
+) -> Result<Session<'c, 'b>, Fault> {
     match Session::new(alloc, linked, pages) {
         Ok(session) => Ok(session),
         Err(misuse) => {
             let size = SetSize::new(linked.components().len(), pages);
-            Err(Fault::Tool(ToolFault::Set { misuse, size }))
+            Err(Fault::from(What::Set { misuse, size }))
         }
     }
 }

@@ -4,26 +4,15 @@ use cm_hux_drive::files::LoadedFiles;
 use cm_hux_said::component_name;
 use std::alloc::{AllocError, Global};
 
-/// The names of the components of files.
-pub fn component_names<'b>(
+/// The names of the components of files, which have these words.
+pub fn component_names<'a>(
     alloc: Global,
-    loaded: &'b LoadedFiles<'_>,
-) -> Result<Vec<&'b str>, AllocError> {
+    loaded: &LoadedFiles,
+    words: &[&'a str],
+) -> Result<Vec<&'a str>, AllocError> {
     let mut names = Vec::with_capacity(alloc, loaded.files().len())?;
-    for file in loaded.files() {
-        names.push(component_name(file.name))?;
-    }
-    Ok(names)
-}
-
-/// The words of the command line that name the files.
-pub(crate) fn file_names(
-    alloc: Global,
-    loaded: &LoadedFiles<'_>,
-) -> Result<Vec<String>, AllocError> {
-    let mut names = Vec::with_capacity(alloc, loaded.files().len())?;
-    for file in loaded.files() {
-        names.push(String::from_str(alloc, file.name)?)?;
+    for name in loaded.names(alloc, words)? {
+        names.push(component_name(name))?;
     }
     Ok(names)
 }

@@ -2,7 +2,7 @@
 
 use crate::diagram::Diagram;
 use crate::telling::Teller;
-use cm_hux_drive::files::{Fault, Stop};
+use cm_hux_drive::files::{Stop, Told};
 use cm_hux_said::Message;
 use std::io;
 use std::io::Write;
@@ -37,7 +37,7 @@ impl<O: Write> Teller for SaidChart<'_, O> {
         Ok(())
     }
 
-    fn refused(&mut self, _fault: &Fault<'_>) -> Result<(), Stop> {
+    fn refused(&mut self, _refusal: Told<'_, '_, '_>) -> Result<(), Stop> {
         Ok(())
     }
 }

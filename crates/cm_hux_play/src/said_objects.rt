@@ -1,7 +1,7 @@
 //! Calls and results as objects, or only the traps.
 
 use crate::telling::Teller;
-use cm_hux_drive::files::{Fault, Object, Stop, ToValue, Value, tell, tell_fault, told};
+use cm_hux_drive::files::{Object, Stop, ToValue, Told, Value, tell, tell_fault, told};
 use cm_hux_said::{Message, Spoken, Trapping, write_message};
 use cm_hux_words::Habits;
 use std::alloc::{AllocError, Global};
@@ -46,9 +46,9 @@ impl<O: Write> Teller for SaidObjects<'_, '_, O> {
         Ok(())
     }
 
-    fn refused(&mut self, fault: &Fault<'_>) -> Result<(), Stop> {
+    fn refused(&mut self, refusal: Told<'_, '_, '_>) -> Result<(), Stop> {
         if self.habits.json {
-            told(tell_fault(self.alloc, fault, self.out))?;
+            told(tell_fault(self.alloc, refusal, self.out))?;
         }
         Ok(())
     }

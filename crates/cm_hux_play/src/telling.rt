@@ -1,6 +1,6 @@
 //! Telling what components say to one another.
 
-use cm_hux_drive::files::{Fault, Stop};
+use cm_hux_drive::files::{Stop, Told};
 use cm_hux_drive::{Event, Move, Printer, Set};
 use cm_hux_said::{Actor, Message, Watch};
 use std::alloc::{AllocError, Global};
@@ -17,7 +17,7 @@ pub(crate) trait Teller {
     fn pause(&mut self) -> Result<(), Stop>;
 
     /// Standard error has a line of this fault: a drive is refused, or a check has failed.
-    fn refused(&mut self, fault: &Fault<'_>) -> Result<(), Stop>;
+    fn refused(&mut self, refusal: Told<'_, '_, '_>) -> Result<(), Stop>;
 }
 
 /// Tells a teller what components say to one another.
@@ -92,7 +92,7 @@ impl<T: Teller> Printer for Telling<'_, '_, T> {
         self.teller.pause()
     }
 
-    fn refused(&mut self, fault: &Fault<'_>) -> Result<(), Stop> {
-        self.teller.refused(fault)
+    fn refused(&mut self, refusal: Told<'_, '_, '_>) -> Result<(), Stop> {
+        self.teller.refused(refusal)
     }
 }

@@ -1,6 +1,6 @@
 //! Events, and faults of drives, as habits want them told.
 
-use cm_hux_drive::files::{Fault, Object, Stop, event_object, line_of, tell, tell_fault, told};
+use cm_hux_drive::files::{Object, Stop, Told, event_object, line_of, tell, tell_fault, told};
 use cm_hux_drive::lines::write_event;
 use cm_hux_drive::{Event, Move, Printer, Set};
 use cm_hux_words::Habits;
@@ -60,9 +60,9 @@ impl<O: Write> Printer for ToldEvents<'_, O> {
         Ok(())
     }
 
-    fn refused(&mut self, fault: &Fault<'_>) -> Result<(), Stop> {
+    fn refused(&mut self, refusal: Told<'_, '_, '_>) -> Result<(), Stop> {
         if self.habits.json {
-            told(tell_fault(self.alloc, fault, self.out))?;
+            told(tell_fault(self.alloc, refusal, self.out))?;
         }
         Ok(())
     }

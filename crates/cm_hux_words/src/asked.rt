@@ -74,7 +74,6 @@ pub struct StubWords<'a> {
 /// `diff A B [--world N [--world N]]`
 #[derive(Drop)]
 pub struct DiffWords<'a> {
-    pub old: &'a str,
-    pub new: &'a str,
+    pub files: [&'a str; 2],
     pub worlds: Vec<&'a str>,
 }

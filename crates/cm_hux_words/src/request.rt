@@ -260,7 +260,8 @@ fn diff<'a>(alloc: Global, found: &ArgMatches<'a>) -> Result<Request<'a>, WordsF
         Some(worlds) => worlds.to_vec(alloc)?,
         None => Vec::new(alloc),
     };
-    Ok(Request::Diff(DiffWords { old, new, worlds }))
+    let files = [old, new];
+    Ok(Request::Diff(DiffWords { files, worlds }))
 }
 
 fn no_command(alloc: Global) -> WordsFault {

@@ -3,4 +3,4 @@ mod MeaningLaws
 mod InstanceLaws
 mod JudgeLaws
 mod FitLaws
-mod FilesLaws
+pub mod FilesLaws

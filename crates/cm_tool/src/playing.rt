@@ -1,7 +1,7 @@
 //! Playing a script on a set.
 
 use cm_machine::{Event, Guest, Misuse, Player, Set};
-use cm_tool_commands::{Drive, Fault, Outcome, Script, ScriptGuest, report, write_event};
+use cm_tool_commands::{Drive, Ending, Fault, Script, ScriptGuest, What, report, write_event};
 use std::alloc::Global;
 use std::io;
 use std::io::Write;
@@ -16,7 +16,7 @@ pub fn play<O: Write, E: Write>(
     limit: u64,
     out: &mut O,
     err: &mut E,
-) -> Result<Outcome, Fault<'static>> {
+) -> Result<Ending, Fault> {
     let Script {
         pages: _,
         moves,
@@ -28,7 +28,7 @@ pub fn play<O: Write, E: Write>(
         let guest: Box<dyn Guest> = Box::new(alloc, ScriptGuest::new(moves))?;
         seats.push(Some(guest))?;
     }
-    let mut worst = Outcome::Done;
+    let mut worst = Ending::Done;
     for (index, root) in begins.into_iter().enumerate() {
         let drive = Drive {
             index,
@@ -41,7 +41,7 @@ pub fn play<O: Write, E: Write>(
     Ok(worst)
 }
 
-/// Prints the events of a drive and answers its outcome. Where it was refused or reached its limit,
+/// Prints the events of a drive and answers how it ends. Where it was refused or reached its limit,
 /// a line on standard error says so.
 fn tell_of_drive<O: Write, E: Write>(
     played: Result<Vec<Event>, Misuse>,
@@ -49,17 +49,17 @@ fn tell_of_drive<O: Write, E: Write>(
     limit: u64,
     out: &mut O,
     err: &mut E,
-) -> io::Result<Outcome> {
+) -> io::Result<Ending> {
     match played {
         Ok(events) => {
             print_events(events.as_slice(), out)?;
             Ok(match events.last() {
-                Some(Event::Ended) => Outcome::Done,
-                Some(Event::Trapped(_)) => Outcome::Trapped,
-                _ => refuse(&Fault::Limit { limit, drive }, err),
+                Some(Event::Ended) => Ending::Done,
+                Some(Event::Trapped(_)) => Ending::Trapped,
+                _ => refuse(What::Unended { limit, drive }, err),
             })
         }
-        Err(misuse) => Ok(refuse(&Fault::Begin { misuse, drive }, err)),
+        Err(misuse) => Ok(refuse(What::Begin { misuse, drive }, err)),
     }
 }
 
@@ -71,7 +71,7 @@ fn print_events<O: Write>(events: &[Event], out: &mut O) -> io::Result<()> {
 }
 
 /// Reports the fault of a drive.
-fn refuse<E: Write>(fault: &Fault, err: &mut E) -> Outcome {
-    report(err, fault);
-    Outcome::Refused
+fn refuse<E: Write>(what: What, err: &mut E) -> Ending {
+    report(err, Fault::from(what).unnamed());
+    Ending::Refused
 }

@@ -1,3 +1,2 @@
 pub mod Conforming
 pub mod Numbers
-pub mod Refusals

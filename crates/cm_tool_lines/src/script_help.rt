@@ -42,6 +42,12 @@ fn beginning_of(line: &str) -> &str {
     }
 }
 
+impl fmt::Display for BadLine {
+    fn fmt<W: fmt::Write>(&self, f: &mut fmt::Formatter<W>) -> fmt::Result {
+        write_bad_line(f, self)
+    }
+}
+
 /// Writes the fault of a line: its number, what is wrong, what stands there, and what was expected.
 pub fn write_bad_line<W: fmt::Write>(f: &mut fmt::Formatter<W>, bad: &BadLine) -> fmt::Result {
     let ScriptRefusal { line, fault } = bad.refusal;

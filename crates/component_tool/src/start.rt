@@ -1,6 +1,6 @@
 //! The program on the machine that it runs on.
 
-use cm_tool::{Disk, Fault, Usage, report, tool, words_of};
+use cm_tool::{Disk, Ending, Fault, Usage, What, report, report_usage, tool, words_of};
 use std::io;
 use std::io::{BufWriter, Input, Write};
 use std::rt::{Env, Files};
@@ -14,11 +14,7 @@ pub fn start<R: Env + Files + Input + AllocGlobal, O: Write + Drop, E: Write>(
 ) -> u8 {
     match run(rt, out, err) {
         Ok(status) => status,
-        Err(error) => {
-            let fault = fault_of(&error);
-            report(err, &fault);
-            fault.status()
-        }
+        Err(error) => report_words(&error, err).status(),
     }
 }
 
@@ -42,11 +38,13 @@ fn run_words<R: Files + Input + AllocGlobal, O: Write + Drop, E: Write>(
     Ok(tool(rt.alloc(), words, &mut Disk::new(rt), &mut out, err))
 }
 
-/// Words that are no text are no command.
-fn fault_of(error: &io::Error) -> Fault<'static> {
-    if error.kind() == io::ErrorKind::OutOfMemory {
-        Fault::Memory
-    } else {
-        Fault::Usage(Usage::NoText)
+/// Reports why the words are not read, and answers how the command ends: words that are no text are
+/// no command.
+fn report_words<E: Write>(error: &io::Error, err: &mut E) -> Ending {
+    if error.kind() != io::ErrorKind::OutOfMemory {
+        return report_usage(err, Usage::NoText);
     }
+    let fault = Fault::from(What::Memory);
+    report(err, fault.unnamed());
+    fault.ending()
 }

@@ -2,7 +2,7 @@
 
 use crate::painter::Painter;
 use crate::wanted::is_colored;
-use cm_hux::{Disk, DiskStreams, Ending, Fault, report, run_hux, words_of};
+use cm_hux::{Disk, DiskStreams, Ending, Fault, What, report, run_hux, words_of};
 use std::alloc::Global;
 use std::io;
 use std::io::{BufWriter, Input, IsTerminal, Write};
@@ -29,7 +29,7 @@ pub fn start<
         Ok(ending) => ending,
         Err(error) => {
             let fault = fault_of(rt.alloc(), &error);
-            report(&mut err, &fault);
+            report(&mut err, fault.unnamed());
             fault.ending()
         }
     }
@@ -55,12 +55,12 @@ fn run<R: Env + Files + Input + AllocGlobal, O: Write + IsTerminal + Drop, E: Wr
 }
 
 /// Words that are no text are no command.
-fn fault_of(alloc: Global, error: &io::Error) -> Fault<'static> {
+fn fault_of(alloc: Global, error: &io::Error) -> Fault {
     if error.kind() == io::ErrorKind::OutOfMemory {
-        return Fault::Memory;
+        return Fault::from(What::Memory);
     }
     match String::from_str(alloc, NO_TEXT) {
-        Ok(text) => Fault::Usage(text),
-        Err(_) => Fault::Memory,
+        Ok(text) => Fault::usage(text),
+        Err(_) => Fault::from(What::Memory),
     }
 }

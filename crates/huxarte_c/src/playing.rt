@@ -13,7 +13,7 @@ ghost use Rattle.huxarte_c_calls.specs.Verdicts.{verdict_by};
 
 use cm_match::{Checked, Linked, link};
 use cm_shims::{Shimmed, check_files, read_files};
-use cm_tool::{FileFault, Files, Outcome, play_linked, report};
+use cm_tool::{Ending, FileFault, Files, Told, Words, play_linked, report};
 use huxarte_c_calls::{HuxKind, HuxSpan, HuxVerdict, Printed, part};
 use huxarte_c_components::{LinkRefusal, files_of};
 use std::alloc::Global;
@@ -27,6 +27,9 @@ pub struct HuxWanted {
     pub out: usize,
     pub err: usize,
 }
+
+/// What the script is named.
+const SCRIPT: &str = "script";
 
 /// The only file of a play: its script.
 #[derive(Drop)]
@@ -87,12 +90,22 @@ fn play_on(
 {
     let mut files = ScriptFile(script);
     let Printed { out, err } = printed;
-    match play_linked(alloc, "script", linked, &mut files, out, err) {
-        Ok(Outcome::Done) => Ok(()),
-        Ok(Outcome::Refused) => Err(PlayRefusal::Stopped),
-        Ok(Outcome::Trapped) => Err(PlayRefusal::Trapped),
+    match play_linked(alloc, SCRIPT, linked, &mut files, out, err) {
+        Ok(Ending::Done) => Ok(()),
+        Ok(Ending::Trapped) => Err(PlayRefusal::Trapped),
+        Ok(Ending::Refused | Ending::Usage | Ending::Unread) => Err(PlayRefusal::Stopped),
         Err(fault) => {
-            report(err, &fault);
+            let words = Words {
+                script: SCRIPT,
+                ..Words::none()
+            };
+            report(
+                err,
+                Told {
+                    fault: &fault,
+                    words,
+                },
+            );
             Err(PlayRefusal::Unplayed)
         }
     }

@@ -1,10 +1,7 @@
 //! How a command ends.
 
 ghost use Rattle.std.specs.Prelude.{◌≡◌};
-ghost use Rattle.cm_tool_commands.specs.Statuses.{outcome_status};
-ghost use Rattle.cm_hux_files.specs.Endings.{ending_status};
-
-use cm_tool_commands::Outcome;
+ghost use Rattle.cm_files.specs.Endings.{ending_status};
 
 /// The end of a command, or of what it did with one file or one drive, the better one first.
 #[derive(Clone, Copy, PartialEq, Eq, PartialOrd, Ord)]
@@ -33,18 +30,6 @@ impl Ending {
             Ending::Usage => 2,
             Ending::Trapped => 3,
             Ending::Unread => 4,
-        }
-    }
-}
-
-impl From<Outcome> for Ending {
-    ghost from_gives = { λ o e. ending_status e ≡ outcome_status o };
-
-    fn from(outcome: Outcome) -> Ending {
-        match outcome {
-            Outcome::Done => Ending::Done,
-            Outcome::Refused => Ending::Refused,
-            Outcome::Trapped => Ending::Trapped,
         }
     }
 }
