@@ -137,13 +137,18 @@ void end_engine(void) {
     JSGlobalContextRelease(context);
 }
 
-void plan_line(uint32_t instance, const uint8_t *bytes, size_t length, const char *line) {
+void plan_part(uint32_t instance, const HuxPlanPart *part, const uint8_t *bytes) {
     JSValueRef thrown = NULL;
-    JSObjectRef buffer = JSObjectMakeArrayBufferWithBytesNoCopy(context, (void *)(uintptr_t)bytes,
-                                                                length, NULL, NULL, &thrown);
+    JSObjectRef buffer = JSObjectMakeArrayBufferWithBytesNoCopy(
+        context, (void *)(uintptr_t)bytes, part->length, NULL, NULL, &thrown);
     stop_at(thrown);
-    JSValueRef words[] = {JSValueMakeNumber(context, instance), buffer, value_of_text(line)};
-    asked("plan", 3, words);
+    JSValueRef words[] = {JSValueMakeNumber(context, instance),
+                          JSValueMakeNumber(context, part->kind),
+                          JSValueMakeNumber(context, part->index),
+                          JSValueMakeNumber(context, part->sort),
+                          JSValueMakeNumber(context, (double)part->count),
+                          buffer};
+    asked("plan", 6, words);
 }
 
 uint32_t pages_of(uint32_t instance) {
@@ -162,12 +167,6 @@ void name_of(uint32_t instance, uint32_t func, char *name, size_t room) {
     text_of(asked_of("lifted", instance, JSValueMakeNumber(context, func)), name, room);
 }
 
-int answer_of(uint32_t instance, uint32_t func) {
-    char kind[8];
-    text_of(asked_of("answers", instance, JSValueMakeNumber(context, func)), kind, sizeof kind);
-    return kind[0] == 0 ? 0 : kind[1] == '3' ? 1 : 2;
-}
-
 int run_func(uint32_t instance, uint32_t func, const HuxCore *values, size_t count,
              HuxCore *answer) {
     JSValueRef words[HUX_MAX_CORE + 2], thrown = NULL;
@@ -177,10 +176,14 @@ int run_func(uint32_t instance, uint32_t func, const HuxCore *values, size_t cou
         words[at + 2] = value_of(values[at]);
     }
     JSValueRef found = ask("run", count + 2, words, &thrown);
-    if (thrown == NULL && !JSValueIsUndefined(context, found)) {
-        *answer = core_of(found);
+    if (thrown != NULL) {
+        return -1;
     }
-    return thrown == NULL;
+    if (JSValueIsUndefined(context, found)) {
+        return 0;
+    }
+    *answer = core_of(found);
+    return 1;
 }
 
 size_t take_memory(uint32_t instance) {

@@ -14,18 +14,17 @@ typedef int (*Calls)(uint32_t instance, uint32_t func, const HuxCore *values, si
 void begin_engine(const char *file, Calls calls);
 void end_engine(void);
 
-/* A line of the plan of a component, whose file has these bytes. */
-void plan_line(uint32_t instance, const uint8_t *bytes, size_t length, const char *line);
+/* Instantiates a part of the plan of a component, which has these bytes. */
+void plan_part(uint32_t instance, const HuxPlanPart *part, const uint8_t *bytes);
 
-/* What the plan says: pages at first, the first function that is exported, what makes handles of a
- * resource of a name, the name of a function, and whether it answers: 0, 1 for i32, 2 for i64. */
+/* What came of the plan: pages at first, the first function that is lifted, what makes handles of a
+ * resource of a name, and the name under which a core module exports a function. */
 uint32_t pages_of(uint32_t instance);
 uint32_t first_of(uint32_t instance);
 uint32_t maker_of(uint32_t instance, const char *name);
 void name_of(uint32_t instance, uint32_t func, char *name, size_t room);
-int answer_of(uint32_t instance, uint32_t func);
 
-/* Runs a core function; 0 where it trapped. */
+/* Runs a core function: how many core values it answers, or -1 where it trapped. */
 int run_func(uint32_t instance, uint32_t func, const HuxCore *values, size_t count,
              HuxCore *answer);
 

@@ -1,70 +1,79 @@
-// What JavaScriptCore is told: it instantiates the core modules of a set by the lines of its plan
-// (crates/cm_live_plan), and runs their functions. `call` and `staging` are the host's. Core values
+// What JavaScriptCore is told: it instantiates the core modules of a set by the parts of their plans
+// (`hux_plan`), and runs their functions. `call` and `staging` are the host's. Core values
 // of 32 bits are numbers, those of 64 texts that begin with `l`.
 const guests = [];
 
-const text = (word) => (word === '-' ? '' : decodeURIComponent(word.replace(/../g, '%$&')));
-const kinds = (word) => (word === '-' ? [] : word.split(','));
+const hex = (byte) => `%${byte.toString(16).padStart(2, '0')}`;
+const text = (bytes) => decodeURIComponent(Array.from(bytes, hex).join(''));
 const outward = (value) => (typeof value === 'bigint' ? `l${BigInt.asUintN(64, value)}` : value);
 const inward = (value) => (typeof value === 'string' ? BigInt(value.slice(1)) : value);
+const sorts = ['func', 'table', 'memory', 'global'];
 
 class Guest {
-    constructor(index, bytes) {
-        Object.assign(this, { index, bytes, modules: [], instances: [], makers: {}, pages: 0 });
-        Object.assign(this, { func: [], table: [], memory: [], global: [], lifts: {} });
+    constructor(index) {
+        Object.assign(this, { index, modules: [], instances: [], makers: {}, names: [] });
+        Object.assign(this, { func: [], table: [], memory: [], global: [] });
     }
 
-    addCall(func, params, [result]) {
-        this.func[func] = (...values) => {
-            const answer = call(this.index, func, ...values.map(outward));
-            return result === undefined ? undefined : inward(answer);
-        };
+    // One more core function, which leaves the guest.
+    addCall() {
+        const func = this.func.length;
+        this.func.push((...values) => inward(call(this.index, func, ...values.map(outward))));
+    }
+
+    // An instance is made once all that it is given was told.
+    open(count, make) {
+        Object.assign(this, { given: {}, wanted: count, make });
+        this.go(0);
+    }
+
+    go(more) {
+        this.wanted -= more;
+        if (this.wanted === 0) this.instances.push(this.make(this.given));
     }
 }
 
-const lines = {
-    module: (guest, at, size) =>
-        guest.modules.push(new WebAssembly.Module(guest.bytes.slice(+at, +at + +size))),
-    instance(guest, module, ...given) {
-        const imports = {};
-        for (const [name, at] of given.map((word) => word.split('=')))
-            imports[text(name)] = guest.instances[at];
-        guest.instances.push(new WebAssembly.Instance(guest.modules[module], imports).exports);
+// What each part of a plan is, by its kind (`HuxPlanKind`).
+const parts = [
+    null,
+    (guest, { bytes }) => guest.modules.push(new WebAssembly.Module(bytes)),
+    (guest, { of, count }) => guest.open(count, (imports) =>
+        new WebAssembly.Instance(guest.modules[of], imports).exports),
+    (guest, { of, bytes }) => {
+        guest.given[text(bytes)] = guest.instances[of];
+        guest.go(1);
     },
-    inline(guest, ...given) {
-        const items = {};
-        for (const [name, item] of given.map((word) => word.split('='))) {
-            const [sort, at] = item.split(':');
-            items[text(name)] = guest[sort][at];
-            if (text(name).startsWith('[resource-new]')) guest.makers[text(name).slice(14)] = +at;
-        }
-        guest.instances.push(items);
+    (guest, { count }) => guest.open(count, (items) => items),
+    (guest, { of, sort, bytes }) => {
+        const name = text(bytes);
+        guest.given[name] = guest[sorts[sort]][of];
+        if (name.startsWith('[resource-new]')) guest.makers[name.slice(14)] = of;
+        guest.go(1);
     },
-    alias: (guest, sort, at, name) => guest[sort].push(guest.instances[at][text(name)]),
-    lower: (guest, func, name, params, results) =>
-        guest.addCall(+func, kinds(params), kinds(results)),
-    resource: (guest, what, func) => guest.addCall(+func, ['i32'], what === 'drop' ? [] : ['i32']),
-    lift(guest, func, name, params, results) {
-        guest.lifts[func] = { name: text(name), result: kinds(results)[0] };
-        guest.first ??= +func;
+    (guest, { of, sort, bytes }) => {
+        const name = text(bytes);
+        guest[sorts[sort]].push(guest.instances[of][name]);
+        if (sort === 0) guest.names[guest.func.length - 1] = name;
     },
-    memory: (guest, at) => { guest.own = guest.memory[at]; },
-    pages: (guest, count) => { guest.pages = +count; },
-};
+    (guest) => guest.addCall(),
+    (guest) => guest.addCall(),
+    (guest) => guest.addCall(),
+    (guest) => guest.addCall(),
+    (guest, { of }) => { guest.first ??= of; },
+    (guest, { of, sort }) => { if (sort === 3) guest.own = guest.memory[of]; },
+];
 
 // ---- what the host calls
 
-function plan(index, bytes, words) {
-    guests[index] ??= new Guest(index, new Uint8Array(bytes));
-    const [kind, ...rest] = words.split(' ');
-    lines[kind]?.(guests[index], ...rest); // types are of no use here
+function plan(index, kind, of, sort, count, buffer) {
+    guests[index] ??= new Guest(index);
+    parts[kind](guests[index], { of, sort, count, bytes: new Uint8Array(buffer) });
 }
 
-const pages = (index) => guests[index].pages;
+const pages = (index) => (guests[index].own?.buffer.byteLength ?? 0) / 65536;
 const first = (index) => guests[index].first;
 const maker = (index, name) => guests[index].makers[name];
-const lifted = (index, func) => guests[index].lifts[func]?.name ?? '';
-const answers = (index, func) => guests[index].lifts[func]?.result ?? '';
+const lifted = (index, func) => guests[index].names[func] ?? '';
 const run = (index, func, ...values) => outward(guests[index].func[func](...values.map(inward)));
 
 // The memory of a guest, into what the host sees; and what it has there, into the memory.

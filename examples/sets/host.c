@@ -14,7 +14,7 @@
 #include <string.h>
 #include <time.h>
 
-enum { PAGE = 65536, BLOCK = 64, MOST_ROOMS = 4096, MOST_PLAN = 1 << 20, ENDED = 7 };
+enum { PAGE = 65536, BLOCK = 64, MOST_ROOMS = 4096, ENDED = 7 };
 
 /* What a guest's allocator has answered for the value that is on its way. */
 typedef struct Room {
@@ -29,53 +29,31 @@ static Room rooms[MOST_ROOMS];
 static size_t room_count;
 static uint64_t calls;
 
-/* Prints the plan of the set by the command in process (`hux live`), whose lines end with LF. */
-static void print_plan(char **names, char *plan, size_t room) {
-    static uint8_t errors[4096];
-    HuxFile given[MOST_FILES + 1];
-    HuxSpan words[MOST_FILES + 1];
-    size_t length = files.length + 4, count = files.count;
-    uint8_t *bytes = malloc(length + count * 16);
-    if (bytes == NULL) {
+/* Instantiates the core modules of a component, as the parts of its plan say. */
+static void instantiate(uint32_t instance) {
+    const uint8_t *file = files.bytes + files.parts[instance].at;
+    size_t length = files.parts[instance].length, at = 0;
+    HuxPlan seen = {0, 0};
+    HuxPlanPart none = {0, 0, 0, 0, 0};
+    uint8_t nothing = 0;
+    fine(hux_plan(file, length, &seen, &none, 0, &nothing, 0), "hux_plan");
+    HuxPlanPart *parts = malloc((seen.parts + 1) * sizeof *parts);
+    uint8_t *texts = malloc(seen.bytes + 1);
+    if (parts == NULL || texts == NULL) {
         exit(1);
     }
-    memcpy(bytes, files.bytes, files.length);
-    memcpy(bytes + files.length, "live-", 5);
-    words[0] = (HuxSpan){files.length, 4};
-    length++;
-    for (size_t at = 0; at < count; at++) {
-        int size = snprintf((char *)bytes + length, 16, "%zu.wasm", at);
-        words[at + 1] = (HuxSpan){length, (size_t)size};
-        given[at] = (HuxFile){words[at + 1], files.parts[at]};
-        length += (size_t)size;
+    fine(hux_plan(file, length, &seen, parts, seen.parts, texts, seen.bytes), "hux_plan");
+    for (size_t i = 0; i < seen.parts; i++) {
+        plan_part(instance, &parts[i], texts + at);
+        at += parts[i].length;
     }
-    given[count] = (HuxFile){{files.length + 4, 1}, {0, 0}};
-    HuxEnd end = hux_main(bytes, length, words, count + 1, given, count + 1, (uint8_t *)plan,
-                          room - 1, errors, sizeof errors);
-    plan[end.out < room ? end.out : room - 1] = 0;
-    free(bytes);
-    if (strstr(plan, "\nready\n") == NULL) {
-        fprintf(stderr, "host: no plan of %s: %.*s\n", names[0], (int)sizeof errors, errors);
-        exit(1);
-    }
-}
-
-/* Instantiates the core modules as the plan says. */
-static void instantiate(char *plan) {
-    uint32_t instance = UINT32_MAX;
-    for (char *line = strtok(plan, "\n"); line != NULL; line = strtok(NULL, "\n")) {
-        if (!strncmp(line, "component ", 10)) {
-            instance++;
-        } else if (strcmp(line, "ready")) {
-            const HuxSpan *part = &files.parts[instance];
-            plan_line(instance, files.bytes + part->at, part->length, line);
-        }
-    }
+    free(parts);
+    free(texts);
 }
 
 /* How many bytes the set's memory of an instance has. */
 static size_t size_of(uint32_t instance) {
-    HuxInstance seen = {0, 0};
+    HuxInstance seen = {0, 0, 0};
     fine(hux_set_instance(&set, instance, &seen), "hux_set_instance");
     return seen.bytes;
 }
@@ -142,16 +120,17 @@ static int go_on(void) {
     uint32_t instance = event.instance, func = event.func, kind = event.kind;
     HuxCore values[HUX_MAX_CORE], answer = {0, 0};
     size_t count = event.count;
-    int runs = kind == 3 ? 1 : kind == 2 ? answer_of(instance, func) : 0;
+    int answers;
     memcpy(values, event.values, sizeof values);
     if (kind == 6) {
         values[0] = core32(event.number);
         count = 1;
     }
     if (serves_wasi(instance)) {
-        runs = serve_wasi(&set, instance, func, kind, values, &answer) && runs;
+        answers = serve_wasi(&set, instance, func, kind, values, &answer);
     } else {
-        if (!run_func(instance, func, values, count, &answer)) {
+        answers = run_func(instance, func, values, count, &answer);
+        if (answers < 0) {
             fine(hux_set_unreachable(&set, &event), "hux_set_unreachable");
             return 0;
         }
@@ -162,7 +141,7 @@ static int go_on(void) {
         }
         tell(instance);
     }
-    fine(hux_set_return(&set, &answer, (size_t)runs, &event), "hux_set_return");
+    fine(hux_set_return(&set, &answer, (size_t)answers, &event), "hux_set_return");
     hand_over();
     return event.kind < ENDED;
 }
@@ -195,7 +174,7 @@ static int root(uint32_t rounds) {
     char name[200];
     fine(hux_set_begin(&set, last, &event), "hux_set_begin");
     for (uint32_t round = 0; round < rounds; round++) {
-        if (!run_func(last, func, NULL, 0, round == 0 ? &answer : &found)) {
+        if (run_func(last, func, NULL, 0, round == 0 ? &answer : &found) < 0) {
             if (event.kind != ENDED) {
                 fine(hux_set_unreachable(&set, &event), "hux_set_unreachable");
             }
@@ -222,7 +201,6 @@ static double seconds(void) {
 }
 
 int main(int count, char **words) {
-    static char plan[MOST_PLAN];
     uint32_t pages[MOST_FILES], rounds = 0;
     int first = 1, end;
     if (count > 3 && !strcmp(words[1], "--rounds")) {
@@ -236,9 +214,8 @@ int main(int count, char **words) {
         return 2;
     }
     begin_engine(getenv("ENGINE") == NULL ? "engine.js" : getenv("ENGINE"), call_out);
-    print_plan(words + first, plan, sizeof plan);
-    instantiate(plan);
     for (uint32_t at = 0; at < files.count; at++) {
+        instantiate(at);
         pages[at] = pages_of(at);
     }
     begin_wasi(words + end + (end < count), (size_t)(count - end - (end < count)));

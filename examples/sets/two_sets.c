@@ -71,6 +71,7 @@ static void call_inc(HuxSet *set, uint32_t number) {
 static void refused(HuxSet *set) {
     HuxCore odd = {0, 7};
     HuxEvent event, before;
+    HuxHandle handle = {0};
     HuxVerdict verdict;
     uint8_t byte = 9;
     memset(&event, 0x5a, sizeof event);
@@ -81,6 +82,8 @@ static void refused(HuxSet *set) {
     assert(verdict.kind == HUX_SET_KIND_NO_KIND && verdict.place == 0);
     assert(make(set) == HUX_SET_KIND_FULL);
     assert(hux_set_read(set, USER, 65536, &byte, 1).kind == HUX_KIND_OUTSIDE && byte == 9);
+    verdict = hux_set_handle_at(set, USER, 1, &handle);
+    assert(verdict.kind == HUX_SET_KIND_NO_HANDLE && verdict.reason == 1 && handle.rep == 0);
     assert(hux_set_read(set, 2, 0, &byte, 1).kind == HUX_SET_KIND_NO_INSTANCE && byte == 9);
     assert(!memcmp(&event, &before, sizeof event));
 }
@@ -109,6 +112,7 @@ static void empty(HuxSet *set) {
     assert(written.count == 7 && region.size == 7);
     assert(hux_set_read(set, 0, 0, &byte, 1).kind == HUX_SET_KIND_EMPTY);
     assert(hux_set_handle(set, 0, 1, &resource, &handle).kind == HUX_SET_KIND_EMPTY);
+    assert(hux_set_handle_at(set, 0, 1, &handle).kind == HUX_SET_KIND_EMPTY);
 }
 
 /* Two sets, freed in one order or the other: neither sees anything of the other. */
@@ -131,7 +135,7 @@ static void two(int first_goes_first) {
     assert(hux_set_read(&b, USER, 8, bytes, 4).kind == HUX_KIND_FINE && bytes[3] == 0);
     assert(hux_set_grow(&b, 2, &event).kind == HUX_KIND_FINE && event.number == 1);
     assert(hux_set_instance(&b, USER, &instance).kind == HUX_KIND_FINE);
-    assert(instance.bytes == 3 * 65536 && !instance.closed);
+    assert(instance.bytes == 3 * 65536 && instance.indices == 1 && !instance.closed);
     call_inc(&a, 41);
     call_inc(&b, 7);
     hux_set_free(first_goes_first ? &a : &b);

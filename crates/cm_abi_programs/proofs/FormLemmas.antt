@@ -1,6 +1,6 @@
 -- What shape each form of a layout has.
 use Rattle.std.proofs.Common.{◌≡◌, ℕ, map, Vec, Global, ap, ◌∙◌, rules}
-use Rattle.std.specs.declared.rc.Rc.{Rc}
+use Rattle.std.specs.declared.sync.Arc.{Arc}
 use Rattle.cm_layout.specs.declared.layouts.Form.{the_lemmas}
 use Rattle.cm_layout.specs.declared.layouts.Form.TheViews as view
 use Rattle.cm_layout.specs.declared.layouts.Form.TheVariants as form
@@ -32,16 +32,16 @@ string_is l is = seen_shape l ∙ (ap shape_of is ∙ seen_form_String)
 pub handle_is : (l : Layout) (h : HandleType) → (out-Layout l).form ≡ form.Handle h → (layout_of l).shape ≡ handle_shape h
 handle_is l h is = seen_shape l ∙ (ap shape_of is ∙ seen_form_Handle h)
 
-pub list_is : (l : Layout) (b : Rc Layout Global) → (out-Layout l).form ≡ view.List b → (layout_of l).shape ≡ list_shape (layout_of b.value).head (layout_of b.value).shape
+pub list_is : (l : Layout) (b : Arc Layout Global) → (out-Layout l).form ≡ view.List b → (layout_of l).shape ≡ list_shape (layout_of b.value).head (layout_of b.value).shape
 list_is l b is = seen_shape l ∙ (ap shape_of is ∙ seen_form_List b)
 
-pub fixed_list_is : (l : Layout) (b : Rc Layout Global) (n : ℕ) → (out-Layout l).form ≡ view.FixedList b n → (layout_of l).shape ≡ fixed_list_shape (layout_of b.value).head (layout_of b.value).shape n
+pub fixed_list_is : (l : Layout) (b : Arc Layout Global) (n : ℕ) → (out-Layout l).form ≡ view.FixedList b n → (layout_of l).shape ≡ fixed_list_shape (layout_of b.value).head (layout_of b.value).shape n
 fixed_list_is l b n is = seen_shape l ∙ (ap shape_of is ∙ seen_form_FixedList b n)
 
-pub fields_is : (l : Layout) (v : Rc (Vec Part Global) Global) → (out-Layout l).form ≡ view.Fields v → (layout_of l).shape ≡ fields_shape (parts_from (map part_of v.value.items))
+pub fields_is : (l : Layout) (v : Arc (Vec Part Global) Global) → (out-Layout l).form ≡ view.Fields v → (layout_of l).shape ≡ fields_shape (parts_from (map part_of v.value.items))
 fields_is l v is = seen_shape l ∙ (ap shape_of is ∙ seen_form_Fields v)
 
-pub cases_is : (l : Layout) (d o : ℕ) (v : Rc (Vec Payload Global) Global) → (out-Layout l).form ≡ view.Cases d o v → (layout_of l).shape ≡ cases_shape d o (payloads_from (map payload_of v.value.items))
+pub cases_is : (l : Layout) (d o : ℕ) (v : Arc (Vec Payload Global) Global) → (out-Layout l).form ≡ view.Cases d o v → (layout_of l).shape ≡ cases_shape d o (payloads_from (map payload_of v.value.items))
 cases_is l d o v is = seen_shape l ∙ (ap shape_of is ∙ seen_form_Cases d o v)
 
 pub enum_is : (l : Layout) (d n : ℕ) → (out-Layout l).form ≡ form.Enum d n → (layout_of l).shape ≡ cases_shape d d (nothings n)

@@ -4,7 +4,7 @@ use Rattle.std.specs.Prelude.{Bool, true, false, nat_lt, ◌&&◌, if◌then◌e
 use Rattle.std.specs.List.{AllByRecursion}
 use Rattle.std.proofs.lemmas.Bool.{le-ltb, ltb-false}
 use Rattle.std.specs.declared.alloc.Global.{Global}
-use Rattle.std.specs.declared.rc.Rc.{Rc}
+use Rattle.std.specs.declared.sync.Arc.{Arc}
 use Rattle.std.specs.declared.vec.Vec.{Vec}
 use Rattle.std.proofs.lemmas.List.{drop_more, get_or-map, get_or-take, length-map, length-take-le, map-append, take_more}
 use Rattle.std.proofs.Math.ListN.{get_or-map as get_or-map_so}
@@ -120,16 +120,16 @@ all_at P (p ∷ ps) zero lt h = h.0
 all_at P (p ∷ ps) (suc i) lt h = all_at P ps i (omega (arith, lt)) h.1
 
 module _ {A : Type 0} where
-  items_pushed : (xs : List (Rc (Vec A Global) Global)) (c : Rc (Vec A Global) Global) → items_of (xs ++ c ∷ []) ≡ items_of xs ++ c.value.items ∷ []
+  items_pushed : (xs : List (Arc (Vec A Global) Global)) (c : Arc (Vec A Global) Global) → items_of (xs ++ c ∷ []) ≡ items_of xs ++ c.value.items ∷ []
   items_pushed [] c = refl
   items_pushed (x ∷ xs) c = ap (λ ls. x.value.items ∷ ls) (items_pushed xs c)
 
-  items_there : (cs : List (Rc (Vec A Global) Global)) (n : ℕ) (c : Rc (Vec A Global) Global) → n < length cs → c ≡ get_or cs n c → c.value.items ≡ items_at (items_of cs) n
+  items_there : (cs : List (Arc (Vec A Global) Global)) (n : ℕ) (c : Arc (Vec A Global) Global) → n < length cs → c ≡ get_or cs n c → c.value.items ≡ items_at (items_of cs) n
   items_there [] n c lt is = absurd (omega (arith, lt))
-  items_there (d ∷ cs) zero c lt is = ap (λ (l : Rc (Vec A Global) Global). l.value.items) is
+  items_there (d ∷ cs) zero c lt is = ap (λ (l : Arc (Vec A Global) Global). l.value.items) is
   items_there (d ∷ cs) (suc n) c lt is = items_there cs n c (omega (arith, lt)) is
 
-  pub gather_next : (lists : List (Rc (Vec A Global) Global)) (ps : List ℕ) (i : ℕ) (x y : Rc (Vec A Global) Global) (front all : List (Rc (Vec A Global) Global)) → i < length ps → get_or ps i 0 < length lists
+  pub gather_next : (lists : List (Arc (Vec A Global) Global)) (ps : List ℕ) (i : ℕ) (x y : Arc (Vec A Global) Global) (front all : List (Arc (Vec A Global) Global)) → i < length ps → get_or ps i 0 < length lists
       → x ≡ get_or lists (get_or ps i 0) x → y.value ≡ x.value → all ≡ front ++ y ∷ []
       → items_of all ++ map (items_at (items_of lists)) (drop (i + 1) ps) ≡ items_of front ++ map (items_at (items_of lists)) (drop i ps)
   gather_next lists ps i x y front all lt there is copy grown =
@@ -140,7 +140,7 @@ module _ {A : Type 0} where
       ∙ ap (λ d. items_of front ++ d ∷ rest) (ap (λ (v : Vec A Global). v.items) copy ∙ items_there lists (get_or ps i 0) x there is)
       ∙ ap (λ qs. items_of front ++ map (items_at (items_of lists)) qs) (sym (drop_more ps i 0 lt))
 
-  pub gather_end : (lists : List (Rc (Vec A Global) Global)) (ps : List ℕ) (i : ℕ) (front : List (Rc (Vec A Global) Global)) → length ps ≤ i
+  pub gather_end : (lists : List (Arc (Vec A Global) Global)) (ps : List ℕ) (i : ℕ) (front : List (Arc (Vec A Global) Global)) → length ps ≤ i
       → items_of front ≡ items_of front ++ map (items_at (items_of lists)) (drop i ps)
   gather_end lists ps i front past = sym (append-nil (items_of front)) ∙ ap (λ qs. items_of front ++ map (items_at (items_of lists)) qs) (sym (drop_past ps i past))
 
@@ -148,10 +148,10 @@ module _ {A : Type 0} where
 
 module _ {A D : Type 0} (list_in : List A → D) where
   -- what each of these lists is
-  abbrev pub lists_in : List (Rc (Vec A Global) Global) → List D
+  abbrev pub lists_in : List (Arc (Vec A Global) Global) → List D
   lists_in cs = map (λ c. list_in c.value.items) cs
 
-  lists_items : (cs : List (Rc (Vec A Global) Global)) → lists_in cs ≡ map list_in (items_of cs)
+  lists_items : (cs : List (Arc (Vec A Global) Global)) → lists_in cs ≡ map list_in (items_of cs)
   lists_items [] = refl
   lists_items (c ∷ cs) = ap (λ ls. list_in c.value.items ∷ ls) (lists_items cs)
 
@@ -160,7 +160,7 @@ module _ {A D : Type 0} (list_in : List A → D) where
 
   -- where each type has this
   module _ (of_type : Ty → D) where
-    module _ (lists : List (Rc (Vec A Global) Global)) (ts : List Ty) (n : ℕ) (le : n ≤ length ts) (are : lists_in lists ≡ map of_type (take n ts)) where
+    module _ (lists : List (Arc (Vec A Global) Global)) (ts : List Ty) (n : ℕ) (le : n ≤ length ts) (are : lists_in lists ≡ map of_type (take n ts)) where
       one_there : (p : ℕ) → p < n → list_in (items_at (items_of lists) p) ≡ of_type (type_at ts p)
       one_there p lt =
           sym (get_or-map_so list_in (items_of lists) p [])
@@ -175,26 +175,26 @@ module _ {A D : Type 0} (list_in : List A → D) where
 
       pub as_many : length lists ≡ n
       as_many =
-          sym (length-map lists (λ (c : Rc (Vec A Global) Global). list_in c.value.items)) ∙ (ap length are ∙ (length-map (take n ts) of_type ∙ length-take-le n ts le))
+          sym (length-map lists (λ (c : Arc (Vec A Global) Global). list_in c.value.items)) ∙ (ap length are ∙ (length-map (take n ts) of_type ∙ length-take-le n ts le))
 
       -- that of the parts of a type, which stand at these places
-      parts_are : (held : List (Rc (Vec A Global) Global)) (ps : List ℕ) (t : Ty) → AllByRecursion (λ p. p < n) ps → items_of held ≡ map (items_at (items_of lists)) ps
+      parts_are : (held : List (Arc (Vec A Global) Global)) (ps : List ℕ) (t : Ty) → AllByRecursion (λ p. p < n) ps → items_of held ≡ map (items_at (items_of lists)) ps
           → parts_in t ≡ map (type_at ts) ps → lists_in held ≡ map of_type (parts_in t)
       parts_are held ps t within gathered parts =
           lists_items held ∙ (ap (λ ls. map list_in ls) gathered ∙ (all_there ps within ∙ ap (λ xs. map of_type xs) (sym parts)))
 
     -- with one more type
-    pub pushed_are : (old new : List (Rc (Vec A Global) Global)) (y : Rc (Vec A Global) Global) (ts : List Ty) (n : ℕ) → n < length ts → new ≡ old ++ y ∷ [] → lists_in old ≡ map of_type (take n ts)
+    pub pushed_are : (old new : List (Arc (Vec A Global) Global)) (y : Arc (Vec A Global) Global) (ts : List Ty) (n : ℕ) → n < length ts → new ≡ old ++ y ∷ [] → lists_in old ≡ map of_type (take n ts)
         → list_in y.value.items ≡ of_type (type_at ts n) → lists_in new ≡ map of_type (take (n + 1) ts)
     pushed_are old new y ts n lt grown are is =
         ap lists_in grown
-        ∙ (map-append (λ (c : Rc (Vec A Global) Global). list_in c.value.items) old (y ∷ [])
+        ∙ (map-append (λ (c : Arc (Vec A Global) Global). list_in c.value.items) old (y ∷ [])
         ∙ (ap (λ xs. xs ++ list_in y.value.items ∷ []) are
         ∙ (ap (λ d. map of_type (take n ts) ++ d ∷ []) is
         ∙ (sym (map-append of_type (take n ts) (type_at ts n ∷ [])) ∙ ap (λ xs. map of_type xs) (sym (take_more ts n bool lt))))))
 
-    pub whole_many : (lists : List (Rc (Vec A Global) Global)) (ts : List Ty) → lists_in lists ≡ map of_type ts → length lists ≡ length ts
-    whole_many lists ts are = sym (length-map lists (λ (c : Rc (Vec A Global) Global). list_in c.value.items)) ∙ (ap length are ∙ length-map ts of_type)
+    pub whole_many : (lists : List (Arc (Vec A Global) Global)) (ts : List Ty) → lists_in lists ≡ map of_type ts → length lists ≡ length ts
+    whole_many lists ts are = sym (length-map lists (λ (c : Arc (Vec A Global) Global). list_in c.value.items)) ∙ (ap length are ∙ length-map ts of_type)
 
   -- where each shape has this
   module _ (K : Shape → D) where
@@ -210,7 +210,7 @@ module _ {A D : Type 0} (list_in : List A → D) where
     shapes_are t l laid = map_twice (parts_in t) ∙ (ap (λ xs. map K xs) (sym (shapes_held t)) ∙ ap (λ (y : LayoutTy). map K (shapes_in y.shape)) (sym laid))
 
     -- that of what a type holds, of which the parts stand at these places
-    pub held_are : (lists : List (Rc (Vec A Global) Global)) (ts : List Ty) (n : ℕ) → n ≤ length ts → lists_in lists ≡ map by_shape (take n ts) → (held : List (Rc (Vec A Global) Global)) (ps : List ℕ) (t : Ty) (l : LayoutTy)
+    pub held_are : (lists : List (Arc (Vec A Global) Global)) (ts : List Ty) (n : ℕ) → n ≤ length ts → lists_in lists ≡ map by_shape (take n ts) → (held : List (Arc (Vec A Global) Global)) (ps : List ℕ) (t : Ty) (l : LayoutTy)
         → AllByRecursion (λ p. p < n) ps → items_of held ≡ map (items_at (items_of lists)) ps → parts_in t ≡ map (type_at ts) ps → l ≡ layout_at t → lists_in held ≡ map K (shapes_in l.shape)
     held_are lists ts n le are held ps t l within gathered parts laid = parts_are by_shape lists ts n le are held ps t within gathered parts ∙ shapes_are t l laid
 
@@ -223,7 +223,7 @@ module _ {A D : Type 0} (list_in : List A → D) where
       all_narrow (x ∷ xs) h = both_are (listed_flat none K x) (by_shape x) (map (listed_flat none K) xs) (map by_shape xs) (narrow_flat x h.0) (all_narrow xs h.1)
 
       -- that of what a type holds that core values may pass
-      pub flat_held : (lists : List (Rc (Vec A Global) Global)) (ts : List Ty) (n : ℕ) → n ≤ length ts → lists_in lists ≡ map (listed_flat none K) (take n ts) → (held : List (Rc (Vec A Global) Global)) (ps : List ℕ) (t : Ty) (l : LayoutTy)
+      pub flat_held : (lists : List (Arc (Vec A Global) Global)) (ts : List Ty) (n : ℕ) → n ≤ length ts → lists_in lists ≡ map (listed_flat none K) (take n ts) → (held : List (Arc (Vec A Global) Global)) (ps : List ℕ) (t : Ty) (l : LayoutTy)
           → AllByRecursion (λ p. p < n) ps → items_of held ≡ map (items_at (items_of lists)) ps → parts_in t ≡ map (type_at ts) ps → l ≡ layout_at t → has_elements t ≡ true → is_wide l.head ≡ false → is_list l.shape ≡ false
           → lists_in held ≡ map K (shapes_in l.shape)
       flat_held lists ts n le are held ps t l within gathered parts laid some narrow place =
@@ -236,8 +236,8 @@ module _ {A D : Type 0} (list_in : List A → D) where
       flat_is t l d laid is = is ∙ ap (λ (y : LayoutTy). if is_wide y.head then none else K y.shape) laid
 
   -- that of a tuple of some of a whole list of types
-  module _ (K : Shape → D) (lists : List (Rc (Vec A Global) Global)) (ts : List Ty) (are : lists_in lists ≡ map (by_shape K) ts) where
-    pub tuple_held : (held : List (Rc (Vec A Global) Global)) (ps : List ℕ) (fs : Fields) (l : LayoutTy) → AllByRecursion (λ p. p < length ts) ps → items_of held ≡ map (items_at (items_of lists)) ps
+  module _ (K : Shape → D) (lists : List (Arc (Vec A Global) Global)) (ts : List Ty) (are : lists_in lists ≡ map (by_shape K) ts) where
+    pub tuple_held : (held : List (Arc (Vec A Global) Global)) (ps : List ℕ) (fs : Fields) (l : LayoutTy) → AllByRecursion (λ p. p < length ts) ps → items_of held ≡ map (items_at (items_of lists)) ps
         → field_types fs ≡ map (type_at ts) ps → l ≡ layout_of_fields_at fs → lists_in held ≡ map K (shapes_in l.shape)
     tuple_held held ps fs l within gathered parts laid =
         let whole : lists_in lists ≡ map (by_shape K) (take (length ts) ts) = are ∙ ap (λ xs. map (by_shape K) xs) (sym (take_all ts (length ts) (omega arith))) in

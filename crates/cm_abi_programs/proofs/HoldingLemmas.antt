@@ -3,7 +3,7 @@ use Rattle.std.proofs.Math.Nat.{add_assoc}
 use Rattle.std.proofs.Common.{◌≡◌, ℕ, zero, suc, ◌+◌, ◌<◌, ◌≤◌, List, [], ◌∷◌, ◌++◌, append_assoc, append-nil, drop, length, map, get_or, refl, sym, ap, ◌∙◌, rules, arith}
 use Rattle.std.specs.Prelude.{Bool, true, false, if◌then◌else◌, is_some, IfOk, MatchResult, Option, Some, None, Result, Ok, Err}
 use Rattle.std.specs.declared.alloc.Global.{Global}
-use Rattle.std.specs.declared.rc.Rc.{Rc}
+use Rattle.std.specs.declared.sync.Arc.{Arc}
 use Rattle.std.specs.declared.vec.Vec.{Vec}
 use Rattle.cm_layout.specs.Layouts.{layout_of, part_of, payload_of}
 use Rattle.cm_layout.proofs.LayoutLemmas.{seen_head}
@@ -56,13 +56,13 @@ slots_end ps i at front past = sym (append-nil front) ∙ ap (λ qs. front ++ sl
 -- ---- how many members lists make
 
 module _ {A : Type 0} where
-  pub members_next : (cs : List (Rc (Vec A Global) Global)) (i n m : ℕ) (c : Rc (Vec A Global) Global) → i < length cs → c ≡ get_or cs i c → m ≡ n + member_count (length c.value.items)
+  pub members_next : (cs : List (Arc (Vec A Global) Global)) (i n m : ℕ) (c : Arc (Vec A Global) Global) → i < length cs → c ≡ get_or cs i c → m ≡ n + member_count (length c.value.items)
       → m + member_counts (items_of (drop (i + 1) cs)) ≡ n + member_counts (items_of (drop i cs))
   members_next cs i n m c lt is more =
       let rest = member_counts (items_of (drop (i + 1) cs)) in
-      ap (λ k. k + rest) more ∙ (add_assoc n (member_count (length c.value.items)) rest ∙ ap (λ ls. n + member_counts ls) (sym (next_element (λ (l : Rc (Vec A Global) Global). l.value.items) cs i c lt is)))
+      ap (λ k. k + rest) more ∙ (add_assoc n (member_count (length c.value.items)) rest ∙ ap (λ ls. n + member_counts ls) (sym (next_element (λ (l : Arc (Vec A Global) Global). l.value.items) cs i c lt is)))
 
-  pub members_end : (cs : List (Rc (Vec A Global) Global)) (i n : ℕ) → length cs ≤ i → n ≡ n + member_counts (items_of (drop i cs))
+  pub members_end : (cs : List (Arc (Vec A Global) Global)) (i n : ℕ) → length cs ≤ i → n ≡ n + member_counts (items_of (drop i cs))
   members_end cs i n past =
       let none : member_counts (items_of (drop i cs)) ≡ 0 = ap (λ xs. member_counts (items_of xs)) (drop_past cs i past) in
       omega (arith, none)
@@ -81,11 +81,11 @@ module _ {A : Type 0} where
   spread_one None ps ls n = refl
   spread_one (Some l) ps ls n = spread_head l ps ls n ∙ ap (λ m. items_at ls n ∷ spread ps (drop m ls)) {x = suc n} {y = n + 1} (omega arith)
 
-  items_pushed : (xs : List (Rc (Vec A Global) Global)) (c : Rc (Vec A Global) Global) → items_of (xs ++ c ∷ []) ≡ items_of xs ++ c.value.items ∷ []
+  items_pushed : (xs : List (Arc (Vec A Global) Global)) (c : Arc (Vec A Global) Global) → items_of (xs ++ c ∷ []) ≡ items_of xs ++ c.value.items ∷ []
   items_pushed [] c = refl
   items_pushed (x ∷ xs) c = ap (λ ls. x.value.items ∷ ls) (items_pushed xs c)
 
-  pub spread_next : (ps : List Payload) (i n m : ℕ) (x : Payload) (ls : List (List A)) (front all : List (Rc (Vec A Global) Global)) (c : Rc (Vec A Global) Global) (carried : Bool)
+  pub spread_next : (ps : List Payload) (i n m : ℕ) (x : Payload) (ls : List (List A)) (front all : List (Arc (Vec A Global) Global)) (c : Arc (Vec A Global) Global) (carried : Bool)
       → i < length ps → x ≡ get_or ps i x → carried ≡ is_some (payload_of x) → c.value.items ≡ (if carried then items_at ls n else []) → m ≡ (if carried then n + 1 else n)
       → all ≡ front ++ c ∷ []
       → items_of all ++ spread (map payload_of (drop (i + 1) ps)) (drop m ls) ≡ items_of front ++ spread (map payload_of (drop i ps)) (drop n ls)
@@ -103,21 +103,21 @@ module _ {A : Type 0} where
   pub spread_end : (ps : List Payload) (i : ℕ) (ls : List (List A)) (front : List (List A)) → length ps ≤ i → front ≡ front ++ spread (map payload_of (drop i ps)) ls
   spread_end ps i ls front past = sym (append-nil front) ∙ ap (λ qs. front ++ spread (map payload_of qs) ls) (sym (drop_past ps i past))
 
-  pub items_there : (cs : List (Rc (Vec A Global) Global)) (n : ℕ) (c : Rc (Vec A Global) Global) → n < length cs → c ≡ get_or cs n c → c.value.items ≡ items_at (items_of cs) n
+  pub items_there : (cs : List (Arc (Vec A Global) Global)) (n : ℕ) (c : Arc (Vec A Global) Global) → n < length cs → c ≡ get_or cs n c → c.value.items ≡ items_at (items_of cs) n
   items_there [] n c lt is = absurd (omega (arith, lt))
-  items_there (d ∷ cs) zero c lt is = ap (λ (l : Rc (Vec A Global) Global). l.value.items) is
+  items_there (d ∷ cs) zero c lt is = ap (λ (l : Arc (Vec A Global) Global). l.value.items) is
   items_there (d ∷ cs) (suc n) c lt is = items_there cs n c (omega (arith, lt)) is
 
-  pub items_past : (cs : List (Rc (Vec A Global) Global)) (n : ℕ) → length cs ≤ n → [] ≡ items_at (items_of cs) n
+  pub items_past : (cs : List (Arc (Vec A Global) Global)) (n : ℕ) → length cs ≤ n → [] ≡ items_at (items_of cs) n
   items_past [] zero past = refl
   items_past [] (suc n) past = refl
   items_past (d ∷ cs) zero past = absurd (omega (arith, past))
   items_past (d ∷ cs) (suc n) past = items_past cs n (omega (arith, past))
 
   -- the only list, shared
-  pub only_shared : (ls : List (Rc (Vec A Global) Global)) (l x : Rc (Vec A Global) Global) → length ls ≡ 1 → l ≡ get_or ls 0 l → x.value ≡ l.value → items_of ls ≡ x.value.items ∷ []
+  pub only_shared : (ls : List (Arc (Vec A Global) Global)) (l x : Arc (Vec A Global) Global) → length ls ≡ 1 → l ≡ get_or ls 0 l → x.value ≡ l.value → items_of ls ≡ x.value.items ∷ []
   only_shared [] l x one is same = absurd (omega (arith, one))
-  only_shared (y ∷ []) l x one is same = ap (λ (v : Vec A Global). v.items ∷ []) (ap (λ (r : Rc (Vec A Global) Global). r.value) (sym is) ∙ sym same)
+  only_shared (y ∷ []) l x one is same = ap (λ (v : Vec A Global). v.items ∷ []) (ap (λ (r : Arc (Vec A Global) Global). r.value) (sym is) ∙ sym same)
   only_shared (y ∷ z ∷ ls) l x one is same = absurd (omega (arith, one))
 
 -- what holds of a value where there is one

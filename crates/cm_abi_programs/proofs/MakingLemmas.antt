@@ -5,7 +5,7 @@ use Rattle.std.proofs.lemmas.Bool.Decides.{nat_tests}
 use Rattle.std.proofs.lemmas.List.{drop_more, map-append}
 use Rattle.std.specs.Prelude.{true, false, ◌&&◌, ◌==◌, Option, Some, None}
 use Rattle.std.specs.declared.alloc.Global.{Global}
-use Rattle.std.specs.declared.rc.Rc.{Rc}
+use Rattle.std.specs.declared.sync.Arc.{Arc}
 use Rattle.std.specs.declared.vec.Vec.{Vec}
 use Rattle.cm_layout.specs.Layouts.{nothings}
 use Rattle.cm_layout.specs.Shapes.{LayoutTy, Parts, no_parts, part, payloads_from}
@@ -55,7 +55,7 @@ moved_end cs i by front past =
 -- ---- fields
 
 -- one more field
-pub placed_next : (os : List ℕ) (cs : List (Rc (Vec CodedCheck Global) Global)) (i o : ℕ) (c : Rc (Vec CodedCheck Global) Global) (front all : Checks)
+pub placed_next : (os : List ℕ) (cs : List (Arc (Vec CodedCheck Global) Global)) (i o : ℕ) (c : Arc (Vec CodedCheck Global) Global) (front all : Checks)
     → i < length os → i < length cs → o ≡ get_or os i 0 → c ≡ get_or cs i c
     → all ≡ both_checks front (placed_checks o (checks_in c.value.items))
     → both_checks all (checks_placed (drop (i + 1) os) (check_lists (drop (i + 1) cs))) ≡ both_checks front (checks_placed (drop i os) (check_lists (drop i cs)))
@@ -63,7 +63,7 @@ placed_next os cs i o c front all within held place list grown =
     let rest = checks_placed (drop (i + 1) os) (check_lists (drop (i + 1) cs)) in
     ap (λ xs. both_checks xs rest) grown
     ∙ both_behind front (placed_checks o (checks_in c.value.items)) rest
-    ∙ ap (λ xs. both_checks front (checks_placed (o ∷ drop (i + 1) os) xs)) (sym (next_element (λ (l : Rc (Vec CodedCheck Global) Global). checks_in l.value.items) cs i c held list))
+    ∙ ap (λ xs. both_checks front (checks_placed (o ∷ drop (i + 1) os) xs)) (sym (next_element (λ (l : Arc (Vec CodedCheck Global) Global). checks_in l.value.items) cs i c held list))
     ∙ ap (λ qs. both_checks front (checks_placed qs (check_lists (drop i cs)))) (sym (drop_more os i 0 within ∙ ap (λ q. q ∷ drop (i + 1) os) (sym place)))
 
 pub placed_end : (os : List ℕ) (cs : List Checks) (i : ℕ) (front : Checks) → length os ≤ i → front ≡ both_checks front (checks_placed (drop i os) cs)
@@ -79,7 +79,7 @@ flat_fields_placed (part o e x ps) at = ap (λ cs. both_checks (placed_checks at
 
 -- ---- what cases carry
 
-pub case_next : (cs : List (Rc (Vec CodedCheck Global) Global)) (i : ℕ) (x y : Rc (Vec CodedCheck Global) Global) (front all : List CodedCase) → i < length cs → x ≡ get_or cs i x → y.value ≡ x.value
+pub case_next : (cs : List (Arc (Vec CodedCheck Global) Global)) (i : ℕ) (x y : Arc (Vec CodedCheck Global) Global) (front all : List CodedCase) → i < length cs → x ≡ get_or cs i x → y.value ≡ x.value
     → all ≡ front ++ view.roll-CaseChecks (record { checks = y }) ∷ [] → map case_of all ++ check_lists (drop (i + 1) cs) ≡ map case_of front ++ check_lists (drop i cs)
 case_next cs i x y front all lt is copy grown =
     let rest = check_lists (drop (i + 1) cs) in
@@ -87,9 +87,9 @@ case_next cs i x y front all lt is copy grown =
     ∙ ap (λ xs. xs ++ rest) (map-append case_of front (view.roll-CaseChecks (record { checks = y }) ∷ []))
     ∙ append_assoc (map case_of front) (case_of (view.roll-CaseChecks (record { checks = y })) ∷ []) rest
     ∙ ap (λ d. map case_of front ++ d ∷ rest) (seen_case y ∙ ap (λ (v : Vec CodedCheck Global). checks_in v.items) copy)
-    ∙ ap (λ ls. map case_of front ++ ls) (sym (next_element (λ (l : Rc (Vec CodedCheck Global) Global). checks_in l.value.items) cs i x lt is))
+    ∙ ap (λ ls. map case_of front ++ ls) (sym (next_element (λ (l : Arc (Vec CodedCheck Global) Global). checks_in l.value.items) cs i x lt is))
 
-pub case_end : (cs : List (Rc (Vec CodedCheck Global) Global)) (i : ℕ) (front : List CodedCase) → length cs ≤ i → map case_of front ≡ map case_of front ++ check_lists (drop i cs)
+pub case_end : (cs : List (Arc (Vec CodedCheck Global) Global)) (i : ℕ) (front : List CodedCase) → length cs ≤ i → map case_of front ≡ map case_of front ++ check_lists (drop i cs)
 case_end cs i front past = sym (append-nil (map case_of front)) ∙ ap (λ xs. map case_of front ++ check_lists xs) (sym (drop_past cs i past))
 
 pub cases_carried : (ps : List (Option LayoutTy)) → cases_from (carried_lists checks_in checks_of ps) ≡ payload_checks (payloads_from ps)
@@ -133,11 +133,11 @@ empty_unchecked (x ∷ xs) = neq_zero (length xs)
 
 pub ruleset emptiness = (empty_unchecked)
 
-pub unchecked_next : (cs : List (Rc (Vec CodedCheck Global) Global)) (i : ℕ) (x : Rc (Vec CodedCheck Global) Global) → i < length cs → x ≡ get_or cs i x
+pub unchecked_next : (cs : List (Arc (Vec CodedCheck Global) Global)) (i : ℕ) (x : Arc (Vec CodedCheck Global) Global) → i < length cs → x ≡ get_or cs i x
     → are_unchecked (cases_from (check_lists (drop i cs))) ≡ (is_unchecked (checks_in x.value.items) && are_unchecked (cases_from (check_lists (drop (i + 1) cs))))
-unchecked_next cs i x lt is = ap (λ xs. are_unchecked (cases_from xs)) (next_element (λ (c : Rc (Vec CodedCheck Global) Global). checks_in c.value.items) cs i x lt is)
+unchecked_next cs i x lt is = ap (λ xs. are_unchecked (cases_from xs)) (next_element (λ (c : Arc (Vec CodedCheck Global) Global). checks_in c.value.items) cs i x lt is)
 
-pub unchecked_end : (cs : List (Rc (Vec CodedCheck Global) Global)) (i : ℕ) → length cs ≤ i → are_unchecked (cases_from (check_lists (drop i cs))) ≡ true
+pub unchecked_end : (cs : List (Arc (Vec CodedCheck Global) Global)) (i : ℕ) → length cs ≤ i → are_unchecked (cases_from (check_lists (drop i cs))) ≡ true
 unchecked_end cs i past = ap (λ xs. are_unchecked (cases_from (check_lists xs))) (drop_past cs i past)
 
 -- ---- how many there are
@@ -146,7 +146,7 @@ pub count_checks : (xs : List CodedCheck) → check_count (checks_in xs) ≡ len
 count_checks [] = refl
 count_checks (x ∷ xs) = ap suc (count_checks xs)
 
-pub count_cases : (xs : List (Rc (Vec CodedCheck Global) Global)) → case_count (cases_from (check_lists xs)) ≡ length xs
+pub count_cases : (xs : List (Arc (Vec CodedCheck Global) Global)) → case_count (cases_from (check_lists xs)) ≡ length xs
 count_cases [] = refl
 count_cases (x ∷ xs) = ap suc (count_cases xs)
 
@@ -169,7 +169,7 @@ row_none d n cs none = rw none refl
 pub cases_some : (b d : ℕ) (cs : CaseChecks) → are_unchecked cs ≡ false → cases_checks b d cs ≡ one_check (cases_check 0 b d cs)
 cases_some b d cs some = rw some refl
 
-pub cases_none : (b d : ℕ) (xs : List (Rc (Vec CodedCheck Global) Global)) → are_unchecked (cases_from (check_lists xs)) ≡ true → cases_checks b d (cases_from (check_lists xs)) ≡ one_check (below_check 0 b (length xs))
+pub cases_none : (b d : ℕ) (xs : List (Arc (Vec CodedCheck Global) Global)) → are_unchecked (cases_from (check_lists xs)) ≡ true → cases_checks b d (cases_from (check_lists xs)) ≡ one_check (below_check 0 b (length xs))
 cases_none b d xs none = rw (none, count_cases xs) refl
 
 pub ruleset listed = (placed_few, many_placed)

@@ -5,7 +5,7 @@ use Rattle.std.proofs.lemmas.Bool.Decides.{nat_tests}
 use Rattle.std.proofs.lemmas.List.{drop_more, map-append}
 use Rattle.std.specs.Prelude.{true, false, ◌&&◌, ◌==◌, ◌*◌, Option, Some, None}
 use Rattle.std.specs.declared.alloc.Global.{Global}
-use Rattle.std.specs.declared.rc.Rc.{Rc}
+use Rattle.std.specs.declared.sync.Arc.{Arc}
 use Rattle.std.specs.declared.vec.Vec.{Vec}
 use Rattle.cm_layout.specs.Layouts.{nothings}
 use Rattle.cm_layout.specs.Shapes.{LayoutTy, Parts, no_parts, part, payloads_from}
@@ -72,13 +72,13 @@ moved_end cs i by front past = ap (λ xs. with_moved by front (puts_in xs)) (sym
 
 -- ---- fields
 
-pub placed_next : (os : List ℕ) (cs : List (Rc (Vec CodedPut Global) Global)) (i o : ℕ) (c : Rc (Vec CodedPut Global) Global) (front all : Puts)
+pub placed_next : (os : List ℕ) (cs : List (Arc (Vec CodedPut Global) Global)) (i o : ℕ) (c : Arc (Vec CodedPut Global) Global) (front all : Puts)
     → i < length os → i < length cs → o ≡ get_or os i 0 → c ≡ get_or cs i c
     → all ≡ with_placed o front (puts_in c.value.items)
     → puts_placed (drop (i + 1) os) (put_lists (drop (i + 1) cs)) all ≡ puts_placed (drop i os) (put_lists (drop i cs)) front
 placed_next os cs i o c front all within held place list grown =
     ap (λ xs. puts_placed (drop (i + 1) os) (put_lists (drop (i + 1) cs)) xs) grown
-    ∙ ap (λ xs. puts_placed (o ∷ drop (i + 1) os) xs front) (sym (next_element (λ (l : Rc (Vec CodedPut Global) Global). puts_in l.value.items) cs i c held list))
+    ∙ ap (λ xs. puts_placed (o ∷ drop (i + 1) os) xs front) (sym (next_element (λ (l : Arc (Vec CodedPut Global) Global). puts_in l.value.items) cs i c held list))
     ∙ ap (λ qs. puts_placed qs (put_lists (drop i cs)) front) (sym (drop_more os i 0 within ∙ ap (λ q. q ∷ drop (i + 1) os) (sym place)))
 
 pub placed_end : (os : List ℕ) (cs : List Puts) (i : ℕ) (front : Puts) → length os ≤ i → front ≡ puts_placed (drop i os) cs front
@@ -90,7 +90,7 @@ fields_placed (part o e x ps) front = fields_placed ps (with_placed o front (put
 
 -- ---- what cases carry
 
-pub case_next : (cs : List (Rc (Vec CodedPut Global) Global)) (i : ℕ) (x y : Rc (Vec CodedPut Global) Global) (front all : List CodedCase) → i < length cs → x ≡ get_or cs i x → y.value ≡ x.value
+pub case_next : (cs : List (Arc (Vec CodedPut Global) Global)) (i : ℕ) (x y : Arc (Vec CodedPut Global) Global) (front all : List CodedCase) → i < length cs → x ≡ get_or cs i x → y.value ≡ x.value
     → all ≡ front ++ view.roll-CasePuts (record { puts = y }) ∷ [] → map case_of all ++ put_lists (drop (i + 1) cs) ≡ map case_of front ++ put_lists (drop i cs)
 case_next cs i x y front all lt is copy grown =
     let rest = put_lists (drop (i + 1) cs) in
@@ -98,9 +98,9 @@ case_next cs i x y front all lt is copy grown =
     ∙ ap (λ xs. xs ++ rest) (map-append case_of front (view.roll-CasePuts (record { puts = y }) ∷ []))
     ∙ append_assoc (map case_of front) (case_of (view.roll-CasePuts (record { puts = y })) ∷ []) rest
     ∙ ap (λ d. map case_of front ++ d ∷ rest) (seen_case y ∙ ap (λ (v : Vec CodedPut Global). puts_in v.items) copy)
-    ∙ ap (λ ls. map case_of front ++ ls) (sym (next_element (λ (l : Rc (Vec CodedPut Global) Global). puts_in l.value.items) cs i x lt is))
+    ∙ ap (λ ls. map case_of front ++ ls) (sym (next_element (λ (l : Arc (Vec CodedPut Global) Global). puts_in l.value.items) cs i x lt is))
 
-pub case_end : (cs : List (Rc (Vec CodedPut Global) Global)) (i : ℕ) (front : List CodedCase) → length cs ≤ i → map case_of front ≡ map case_of front ++ put_lists (drop i cs)
+pub case_end : (cs : List (Arc (Vec CodedPut Global) Global)) (i : ℕ) (front : List CodedCase) → length cs ≤ i → map case_of front ≡ map case_of front ++ put_lists (drop i cs)
 case_end cs i front past = sym (append-nil (map case_of front)) ∙ ap (λ xs. map case_of front ++ put_lists xs) (sym (drop_past cs i past))
 
 pub cases_carried : (ps : List (Option LayoutTy)) → case_puts_from (carried_lists puts_in puts_of ps) ≡ payload_puts (payloads_from ps)
@@ -126,11 +126,11 @@ empty_unwritten (x ∷ xs) = neq_zero (length xs)
 
 pub ruleset emptiness = (empty_unwritten)
 
-pub unwritten_next : (cs : List (Rc (Vec CodedPut Global) Global)) (i : ℕ) (x : Rc (Vec CodedPut Global) Global) → i < length cs → x ≡ get_or cs i x
+pub unwritten_next : (cs : List (Arc (Vec CodedPut Global) Global)) (i : ℕ) (x : Arc (Vec CodedPut Global) Global) → i < length cs → x ≡ get_or cs i x
     → are_unwritten (case_puts_from (put_lists (drop i cs))) ≡ (is_unwritten (puts_in x.value.items) && are_unwritten (case_puts_from (put_lists (drop (i + 1) cs))))
-unwritten_next cs i x lt is = ap (λ xs. are_unwritten (case_puts_from xs)) (next_element (λ (c : Rc (Vec CodedPut Global) Global). puts_in c.value.items) cs i x lt is)
+unwritten_next cs i x lt is = ap (λ xs. are_unwritten (case_puts_from xs)) (next_element (λ (c : Arc (Vec CodedPut Global) Global). puts_in c.value.items) cs i x lt is)
 
-pub unwritten_end : (cs : List (Rc (Vec CodedPut Global) Global)) (i : ℕ) → length cs ≤ i → are_unwritten (case_puts_from (put_lists (drop i cs))) ≡ true
+pub unwritten_end : (cs : List (Arc (Vec CodedPut Global) Global)) (i : ℕ) → length cs ≤ i → are_unwritten (case_puts_from (put_lists (drop i cs))) ≡ true
 unwritten_end cs i past = ap (λ xs. are_unwritten (case_puts_from (put_lists xs))) (drop_past cs i past)
 
 -- ---- how many there are

@@ -5,7 +5,7 @@ use Rattle.std.proofs.lemmas.Bool.Decides.{nat_tests}
 use Rattle.std.proofs.lemmas.List.{drop_more, map-append}
 use Rattle.std.specs.Prelude.{true, false, ◌&&◌, ◌==◌, Option, Some, None}
 use Rattle.std.specs.declared.alloc.Global.{Global}
-use Rattle.std.specs.declared.rc.Rc.{Rc}
+use Rattle.std.specs.declared.sync.Arc.{Arc}
 use Rattle.std.specs.declared.vec.Vec.{Vec}
 use Rattle.cm_layout.specs.Layouts.{nothings}
 use Rattle.cm_layout.specs.Shapes.{LayoutTy, Parts, no_parts, part, payloads_from}
@@ -56,7 +56,7 @@ moved_end cs i by front past = sym (none_behind front) ∙ ap (λ xs. both_slots
 
 -- ---- fields
 
-pub placed_next : (os : List ℕ) (cs : List (Rc (Vec CodedSlot Global) Global)) (i o : ℕ) (c : Rc (Vec CodedSlot Global) Global) (front all : SlotPuts)
+pub placed_next : (os : List ℕ) (cs : List (Arc (Vec CodedSlot Global) Global)) (i o : ℕ) (c : Arc (Vec CodedSlot Global) Global) (front all : SlotPuts)
     → i < length os → i < length cs → o ≡ get_or os i 0 → c ≡ get_or cs i c
     → all ≡ both_slots front (placed_slots o (slots_in c.value.items))
     → both_slots all (slots_placed (drop (i + 1) os) (slot_lists (drop (i + 1) cs))) ≡ both_slots front (slots_placed (drop i os) (slot_lists (drop i cs)))
@@ -64,7 +64,7 @@ placed_next os cs i o c front all within held place list grown =
     let rest = slots_placed (drop (i + 1) os) (slot_lists (drop (i + 1) cs)) in
     ap (λ xs. both_slots xs rest) grown
     ∙ both_behind front (placed_slots o (slots_in c.value.items)) rest
-    ∙ ap (λ xs. both_slots front (slots_placed (o ∷ drop (i + 1) os) xs)) (sym (next_element (λ (l : Rc (Vec CodedSlot Global) Global). slots_in l.value.items) cs i c held list))
+    ∙ ap (λ xs. both_slots front (slots_placed (o ∷ drop (i + 1) os) xs)) (sym (next_element (λ (l : Arc (Vec CodedSlot Global) Global). slots_in l.value.items) cs i c held list))
     ∙ ap (λ qs. both_slots front (slots_placed qs (slot_lists (drop i cs)))) (sym (drop_more os i 0 within ∙ ap (λ q. q ∷ drop (i + 1) os) (sym place)))
 
 pub placed_end : (os : List ℕ) (cs : List SlotPuts) (i : ℕ) (front : SlotPuts) → length os ≤ i → front ≡ both_slots front (slots_placed (drop i os) cs)
@@ -76,7 +76,7 @@ fields_placed (part o e x ps) at = ap (λ cs. both_slots (placed_slots at (flat_
 
 -- ---- what cases carry
 
-pub case_next : (cs : List (Rc (Vec CodedSlot Global) Global)) (i : ℕ) (x y : Rc (Vec CodedSlot Global) Global) (front all : List CodedCase) → i < length cs → x ≡ get_or cs i x → y.value ≡ x.value
+pub case_next : (cs : List (Arc (Vec CodedSlot Global) Global)) (i : ℕ) (x y : Arc (Vec CodedSlot Global) Global) (front all : List CodedCase) → i < length cs → x ≡ get_or cs i x → y.value ≡ x.value
     → all ≡ front ++ view.roll-CaseSlotPuts (record { puts = y }) ∷ [] → map case_of all ++ slot_lists (drop (i + 1) cs) ≡ map case_of front ++ slot_lists (drop i cs)
 case_next cs i x y front all lt is copy grown =
     let rest = slot_lists (drop (i + 1) cs) in
@@ -84,9 +84,9 @@ case_next cs i x y front all lt is copy grown =
     ∙ ap (λ xs. xs ++ rest) (map-append case_of front (view.roll-CaseSlotPuts (record { puts = y }) ∷ []))
     ∙ append_assoc (map case_of front) (case_of (view.roll-CaseSlotPuts (record { puts = y })) ∷ []) rest
     ∙ ap (λ d. map case_of front ++ d ∷ rest) (seen_case y ∙ ap (λ (v : Vec CodedSlot Global). slots_in v.items) copy)
-    ∙ ap (λ ls. map case_of front ++ ls) (sym (next_element (λ (l : Rc (Vec CodedSlot Global) Global). slots_in l.value.items) cs i x lt is))
+    ∙ ap (λ ls. map case_of front ++ ls) (sym (next_element (λ (l : Arc (Vec CodedSlot Global) Global). slots_in l.value.items) cs i x lt is))
 
-pub case_end : (cs : List (Rc (Vec CodedSlot Global) Global)) (i : ℕ) (front : List CodedCase) → length cs ≤ i → map case_of front ≡ map case_of front ++ slot_lists (drop i cs)
+pub case_end : (cs : List (Arc (Vec CodedSlot Global) Global)) (i : ℕ) (front : List CodedCase) → length cs ≤ i → map case_of front ≡ map case_of front ++ slot_lists (drop i cs)
 case_end cs i front past = sym (append-nil (map case_of front)) ∙ ap (λ xs. map case_of front ++ slot_lists xs) (sym (drop_past cs i past))
 
 pub cases_carried : (ps : List (Option LayoutTy)) → case_slots_from (carried_lists slots_in flat_puts_of ps) ≡ flat_payload_puts (payloads_from ps)
@@ -112,11 +112,11 @@ empty_unput (x ∷ xs) = neq_zero (length xs)
 
 pub ruleset emptiness = (empty_unput)
 
-pub unput_next : (cs : List (Rc (Vec CodedSlot Global) Global)) (i : ℕ) (x : Rc (Vec CodedSlot Global) Global) → i < length cs → x ≡ get_or cs i x
+pub unput_next : (cs : List (Arc (Vec CodedSlot Global) Global)) (i : ℕ) (x : Arc (Vec CodedSlot Global) Global) → i < length cs → x ≡ get_or cs i x
     → are_unput (case_slots_from (slot_lists (drop i cs))) ≡ (is_unput (slots_in x.value.items) && are_unput (case_slots_from (slot_lists (drop (i + 1) cs))))
-unput_next cs i x lt is = ap (λ xs. are_unput (case_slots_from xs)) (next_element (λ (c : Rc (Vec CodedSlot Global) Global). slots_in c.value.items) cs i x lt is)
+unput_next cs i x lt is = ap (λ xs. are_unput (case_slots_from xs)) (next_element (λ (c : Arc (Vec CodedSlot Global) Global). slots_in c.value.items) cs i x lt is)
 
-pub unput_end : (cs : List (Rc (Vec CodedSlot Global) Global)) (i : ℕ) → length cs ≤ i → are_unput (case_slots_from (slot_lists (drop i cs))) ≡ true
+pub unput_end : (cs : List (Arc (Vec CodedSlot Global) Global)) (i : ℕ) → length cs ≤ i → are_unput (case_slots_from (slot_lists (drop i cs))) ≡ true
 unput_end cs i past = ap (λ xs. are_unput (case_slots_from (slot_lists xs))) (drop_past cs i past)
 
 -- ---- how many there are

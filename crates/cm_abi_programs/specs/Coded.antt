@@ -1,7 +1,7 @@
 -- The checks that the code's are.
 use Rattle.std.specs.Prelude.{List, [], ◌∷◌, map}
 use Rattle.std.specs.declared.alloc.Global.{Global}
-use Rattle.std.specs.declared.rc.Rc.{Rc}
+use Rattle.std.specs.declared.sync.Arc.{Arc}
 use Rattle.std.specs.declared.vec.Vec.{Vec}
 use Rattle.cm_abi_programs.specs.Checks.{Check, Checks, CaseChecks, no_checks, check, no_cases}
 use Rattle.cm_abi_programs.specs.Checks.{case, char_check, below_check, text_check, list_check}
@@ -47,5 +47,5 @@ abbrev pub checks_in : List CodedCheck → Checks
 checks_in cs = checks_from (map check_of cs)
 
 -- those of each list
-abbrev pub check_lists : List (Rc (Vec CodedCheck Global) Global) → List Checks
+abbrev pub check_lists : List (Arc (Vec CodedCheck Global) Global) → List Checks
 check_lists cs = map (λ c. checks_in c.value.items) cs

@@ -1,7 +1,7 @@
 -- The puts that the code's are.
 use Rattle.std.specs.Prelude.{List, [], ◌∷◌, map}
 use Rattle.std.specs.declared.alloc.Global.{Global}
-use Rattle.std.specs.declared.rc.Rc.{Rc}
+use Rattle.std.specs.declared.sync.Arc.{Arc}
 use Rattle.std.specs.declared.vec.Vec.{Vec}
 use Rattle.cm_abi_programs.specs.Puts.{Put, Puts, CasePuts, no_puts, put, no_cases, case}
 use Rattle.cm_abi_programs.specs.Puts.{run_put, truth_put, flags_put, text_put, list_put}
@@ -48,5 +48,5 @@ abbrev pub puts_in : List CodedPut → Puts
 puts_in cs = puts_from (map put_of cs)
 
 -- those of each list
-abbrev pub put_lists : List (Rc (Vec CodedPut Global) Global) → List Puts
+abbrev pub put_lists : List (Arc (Vec CodedPut Global) Global) → List Puts
 put_lists cs = map (λ c. puts_in c.value.items) cs

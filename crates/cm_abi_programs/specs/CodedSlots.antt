@@ -1,7 +1,7 @@
 -- The puts of core values that the code's are.
 use Rattle.std.specs.Prelude.{List, [], ◌∷◌, map}
 use Rattle.std.specs.declared.alloc.Global.{Global}
-use Rattle.std.specs.declared.rc.Rc.{Rc}
+use Rattle.std.specs.declared.sync.Arc.{Arc}
 use Rattle.std.specs.declared.vec.Vec.{Vec}
 use Rattle.cm_abi_programs.specs.CodedPuts.{puts_in}
 use Rattle.cm_abi_programs.specs.SlotPuts.{SlotPut, SlotPuts, CaseSlotPuts, no_slots, slot}
@@ -47,5 +47,5 @@ abbrev pub slots_in : List CodedSlot → SlotPuts
 slots_in cs = slots_from (map slot_of cs)
 
 -- those of each list
-abbrev pub slot_lists : List (Rc (Vec CodedSlot Global) Global) → List SlotPuts
+abbrev pub slot_lists : List (Arc (Vec CodedSlot Global) Global) → List SlotPuts
 slot_lists cs = map (λ c. slots_in c.value.items) cs

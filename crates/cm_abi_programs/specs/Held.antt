@@ -2,7 +2,7 @@
 use Rattle.std.specs.Prelude.{ℕ, ◌+◌, Bool, true, false, List, [], ◌∷◌, Option, Some, None, map}
 use Rattle.std.specs.Prelude.{slice_index_or}
 use Rattle.std.specs.declared.alloc.Global.{Global}
-use Rattle.std.specs.declared.rc.Rc.{Rc}
+use Rattle.std.specs.declared.sync.Arc.{Arc}
 use Rattle.std.specs.declared.vec.Vec.{Vec}
 use Rattle.cm_layout.specs.Shapes.{LayoutTy, Shape, Parts, Payloads, leaf_shape, string_shape}
 use Rattle.cm_layout.specs.Shapes.{list_shape, fixed_list_shape, fields_shape, cases_shape}
@@ -43,7 +43,7 @@ is_list (list_shape e x) = true
 is_list _ = false
 
 -- the members of shared lists, and those of the list of a number
-abbrev pub items_of : {A : Type 0} → List (Rc (Vec A Global) Global) → List (List A)
+abbrev pub items_of : {A : Type 0} → List (Arc (Vec A Global) Global) → List (List A)
 items_of cs = map (λ c. c.value.items) cs
 
 abbrev pub items_at : {A : Type 0} → List (List A) → ℕ → List A

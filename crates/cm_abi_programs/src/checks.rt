@@ -6,7 +6,7 @@ ghost use Rattle.cm_abi_programs.specs.Checks.{moved_check};
 use crate::places::place_behind;
 use cm_layout::{HandleType, Head};
 use std::alloc::AllocError;
-use std::rc::Rc;
+use std::sync::Arc;
 
 /// Something to look at in a value. Where it stands is counted from where the value begins, in
 /// bytes where that stands in memory, and in core values where these pass it.
@@ -31,14 +31,14 @@ pub enum Check {
     List {
         at: u32,
         element: Head,
-        checks: Rc<Vec<Check>>,
+        checks: Arc<Vec<Check>>,
     },
     /// So many values in a row, so far one behind the other, and the checks of each.
     Each {
         at: u32,
         distance: u32,
         count: u32,
-        checks: Rc<Vec<Check>>,
+        checks: Arc<Vec<Check>>,
     },
     /// The number of a case, of so many bytes. What the case carries stands so far behind it, and
     /// these are the checks of what each case carries.
@@ -46,7 +46,7 @@ pub enum Check {
         at: u32,
         bytes: u32,
         offset: u32,
-        cases: Rc<Vec<CaseChecks>>,
+        cases: Arc<Vec<CaseChecks>>,
     },
     /// A handle.
     Handle {
@@ -56,7 +56,7 @@ pub enum Check {
     /// A value with checks of its own.
     Part {
         at: u32,
-        checks: Rc<Vec<Check>>,
+        checks: Arc<Vec<Check>>,
     },
 }
 
@@ -64,7 +64,7 @@ pub enum Check {
 #[cycle(checks)]
 #[derive(Drop)]
 pub struct CaseChecks {
-    pub checks: Rc<Vec<Check>>,
+    pub checks: Arc<Vec<Check>>,
 }
 
 impl Check {

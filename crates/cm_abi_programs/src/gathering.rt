@@ -5,15 +5,15 @@ ghost use Rattle.std.specs.List.{AllByRecursion};
 ghost use Rattle.cm_abi_programs.specs.Held.{items_at, items_of};
 
 use std::alloc::{AllocError, Global};
-use std::rc::Rc;
+use std::sync::Arc;
 
 /// The lists at these places, in order, each shared. `AllocError` comes where there is no memory
 /// for that.
 pub(crate) fn gather<T: Drop>(
     alloc: Global,
-    lists: &[Rc<Vec<T>>],
+    lists: &[Arc<Vec<T>>],
     places: &[usize],
-) -> Result<Vec<Rc<Vec<T>>>, AllocError>
+) -> Result<Vec<Arc<Vec<T>>>, AllocError>
     requires { AllByRecursion (λ p. p < length lists.now) places.now }
     ensures { IfOk result (λ held.
         items_of held.items ≡ map (items_at (items_of lists.now)) places.now) }

@@ -12,7 +12,7 @@ use crate::limits::FEW;
 use crate::places::place_behind;
 use cm_layout::{Part, Payload};
 use std::alloc::{AllocError, Global};
-use std::rc::Rc;
+use std::sync::Arc;
 
 /// Where fields begin, in bytes from where the whole does. `AllocError` comes where there is no
 /// memory for that.
@@ -50,7 +50,7 @@ fn member_count(length: usize) -> usize
 
 /// How many members the list of a whole has of those of its fields. `AllocError` comes where they
 /// are too many to be counted.
-pub(crate) fn member_counts<T: Drop>(lists: &[Rc<Vec<T>>]) -> Result<usize, AllocError>
+pub(crate) fn member_counts<T: Drop>(lists: &[Arc<Vec<T>>]) -> Result<usize, AllocError>
     ensures { IfOk result (λ n. n ≡ member_counts (items_of lists.now)) }
 {
     let mut count: usize = 0;
@@ -64,7 +64,7 @@ pub(crate) fn member_counts<T: Drop>(lists: &[Rc<Vec<T>>]) -> Result<usize, Allo
 
 /// The one list that is held, shared. `AllocError` comes where it is shared too often to be
 /// counted.
-pub(crate) fn only_list<T: Drop>(lists: &[Rc<Vec<T>>]) -> Result<Rc<Vec<T>>, AllocError>
+pub(crate) fn only_list<T: Drop>(lists: &[Arc<Vec<T>>]) -> Result<Arc<Vec<T>>, AllocError>
     requires { length lists.now ≡ 1 }
     ensures { IfOk result (λ c. items_of lists.now ≡ c.value.items ∷ []) }
 {
@@ -81,10 +81,10 @@ fn is_carried(payload: &Payload) -> bool
 /// What a case has, shared: the list of this number where it carries anything, else this empty one.
 fn case_list<T: Drop>(
     is_carried: bool,
-    lists: &[Rc<Vec<T>>],
+    lists: &[Arc<Vec<T>>],
     number: usize,
-    nothing: &Rc<Vec<T>>,
-) -> Result<Rc<Vec<T>>, AllocError>
+    nothing: &Arc<Vec<T>>,
+) -> Result<Arc<Vec<T>>, AllocError>
     requires { nothing.now.value.items ≡ [] }
     ensures { IfOk result (λ c. c.value.items
         ≡ (if is_carried then items_at (items_of lists.now) number else [])) }
@@ -108,12 +108,12 @@ fn next_list(next: usize, is_carried: bool) -> usize
 pub(crate) fn case_lists<T: Drop>(
     alloc: Global,
     payloads: &[Payload],
-    lists: &[Rc<Vec<T>>],
-) -> Result<Vec<Rc<Vec<T>>>, AllocError>
+    lists: &[Arc<Vec<T>>],
+) -> Result<Vec<Arc<Vec<T>>>, AllocError>
     ensures { IfOk result (λ cs.
         items_of cs.items ≡ spread (map payload_of payloads.now) (items_of lists.now)) }
 {
-    let nothing = Rc::new(alloc, Vec::new(alloc))?;
+    let nothing = Arc::new(alloc, Vec::new(alloc))?;
     let mut all = Vec::with_capacity(alloc, payloads.len())?;
     let mut next = 0;
     for payload in payloads {

@@ -16,7 +16,7 @@ use crate::holding::{byte_offsets, case_lists, member_counts, only_list, slot_of
 use crate::limits::FEW;
 use cm_layout::{Form, Head, Layout, Leaf};
 use std::alloc::{AllocError, Global};
-use std::rc::Rc;
+use std::sync::Arc;
 
 /// Adds checks behind others, each so far behind where it stands.
 fn push_moved(checks: &[Check], by: u32, all: &mut Vec<Check>) -> Result<(), AllocError>
@@ -33,7 +33,7 @@ fn push_moved(checks: &[Check], by: u32, all: &mut Vec<Check>) -> Result<(), All
 /// Adds the checks of a field that begins so far behind: where they are few they are written out,
 /// else the list is shared. Nothing below them is walked.
 #[tactic(auto, using(crate::proofs::MakingLemmas::listed))]
-fn push_placed(checks: &Rc<Vec<Check>>, at: u32, all: &mut Vec<Check>) -> Result<(), AllocError>
+fn push_placed(checks: &Arc<Vec<Check>>, at: u32, all: &mut Vec<Check>) -> Result<(), AllocError>
     ensures { OnOk result (checks_in all.new.items
         ≡ both_checks (checks_in all.old.items)
         (placed_checks at (checks_in checks.now.value.items))) }
@@ -51,7 +51,7 @@ fn push_placed(checks: &Rc<Vec<Check>>, at: u32, all: &mut Vec<Check>) -> Result
 fn placed_checks(
     alloc: Global,
     offsets: &[u32],
-    lists: &[Rc<Vec<Check>>],
+    lists: &[Arc<Vec<Check>>],
 ) -> Result<Vec<Check>, AllocError>
     requires { length offsets.now ≡ length lists.now }
     ensures { IfOk result (λ cs.
@@ -87,7 +87,7 @@ fn leaf_checks(alloc: Global, leaf: Leaf) -> Result<Vec<Check>, AllocError>
 fn list_checks(
     alloc: Global,
     element: Head,
-    checks: Rc<Vec<Check>>,
+    checks: Arc<Vec<Check>>,
 ) -> Result<Vec<Check>, AllocError>
     ensures { IfOk result (λ cs.
         checks_in cs.items ≡ one_check (list_check 0 element (checks_in checks.value.items))) }
@@ -107,7 +107,7 @@ fn row_checks(
     alloc: Global,
     distance: u32,
     count: u32,
-    checks: Rc<Vec<Check>>,
+    checks: Arc<Vec<Check>>,
 ) -> Result<Vec<Check>, AllocError>
     ensures { IfOk result (λ cs.
         checks_in cs.items ≡ row_checks distance count (checks_in checks.value.items)) }
@@ -135,7 +135,7 @@ fn is_unchecked(checks: &[Check]) -> bool
 }
 
 /// Whether there is nothing to look at in what any case carries.
-fn are_unchecked(cases: &[Rc<Vec<Check>>]) -> bool
+fn are_unchecked(cases: &[Arc<Vec<Check>>]) -> bool
     ensures { result ≡ are_unchecked (cases_from (check_lists cases.now)) }
 {
     for checks in cases {
@@ -148,7 +148,7 @@ fn are_unchecked(cases: &[Rc<Vec<Check>>]) -> bool
 
 /// The checks of what each case carries, in order; each list is shared. `AllocError` comes where
 /// there is no memory for that.
-fn case_checks(alloc: Global, cases: &[Rc<Vec<Check>>]) -> Result<Vec<CaseChecks>, AllocError>
+fn case_checks(alloc: Global, cases: &[Arc<Vec<Check>>]) -> Result<Vec<CaseChecks>, AllocError>
     ensures { IfOk result (λ cs. map case_of cs.items ≡ check_lists cases.now) }
 {
     let mut all = Vec::with_capacity(alloc, cases.len())?;
@@ -165,7 +165,7 @@ fn cases_checks(
     alloc: Global,
     bytes: u32,
     offset: u32,
-    cases: Vec<Rc<Vec<Check>>>,
+    cases: Vec<Arc<Vec<Check>>>,
 ) -> Result<Vec<Check>, AllocError>
     ensures { IfOk result (λ cs.
         checks_in cs.items ≡ cases_checks bytes offset (cases_from (check_lists cases.items))) }
@@ -181,7 +181,7 @@ fn cases_checks(
             },
         );
     }
-    let cases = Rc::new(alloc, case_checks(alloc, &cases)?)?;
+    let cases = Arc::new(alloc, case_checks(alloc, &cases)?)?;
     one_check(
         alloc,
         Check::Cases {
@@ -200,7 +200,7 @@ fn cases_checks(
 pub fn stored_checks(
     alloc: Global,
     layout: &Layout,
-    held: &[Rc<Vec<Check>>],
+    held: &[Arc<Vec<Check>>],
 ) -> Result<Vec<Check>, AllocError>
     requires { check_lists held.now ≡ map checks_of (shapes_in (layout_of layout.now).shape) }
     ensures { IfOk result (λ cs. checks_in cs.items ≡ checks_of (layout_of layout.now).shape) }
@@ -248,8 +248,8 @@ pub fn stored_checks(
 pub fn flat_checks(
     alloc: Global,
     layout: &Layout,
-    stored: &[Rc<Vec<Check>>],
-    held: &[Rc<Vec<Check>>],
+    stored: &[Arc<Vec<Check>>],
+    held: &[Arc<Vec<Check>>],
 ) -> Result<Vec<Check>, AllocError>
     requires stored { check_lists stored.now
         ≡ map checks_of (shapes_in (layout_of layout.now).shape) }

@@ -18,7 +18,7 @@ use crate::places::{place_behind, row_length};
 use crate::puts::{CasePuts, Put};
 use cm_layout::{Form, Layout, Leaf};
 use std::alloc::{AllocError, Global};
-use std::rc::Rc;
+use std::sync::Arc;
 
 /// The run that two puts are together, where the second is a run that begins where the first, a run
 /// too, ends.
@@ -80,7 +80,7 @@ fn push_moved(puts: &[Put], by: u32, all: &mut Vec<Put>) -> Result<(), AllocErro
 /// Adds the puts of a field that begins so far behind: where they are few they are written out,
 /// else the list is shared. Nothing below them is walked.
 #[tactic(auto, using(crate::proofs::PutMakingLemmas::listed))]
-fn push_placed(puts: &Rc<Vec<Put>>, at: u32, all: &mut Vec<Put>) -> Result<(), AllocError>
+fn push_placed(puts: &Arc<Vec<Put>>, at: u32, all: &mut Vec<Put>) -> Result<(), AllocError>
     ensures { OnOk result (puts_in all.new.items
         ≡ with_placed at (puts_in all.old.items) (puts_in puts.now.value.items)) }
 {
@@ -96,7 +96,7 @@ fn push_placed(puts: &Rc<Vec<Put>>, at: u32, all: &mut Vec<Put>) -> Result<(), A
 fn placed_puts(
     alloc: Global,
     offsets: &[u32],
-    lists: &[Rc<Vec<Put>>],
+    lists: &[Arc<Vec<Put>>],
 ) -> Result<Vec<Put>, AllocError>
     requires { length offsets.now ≡ length lists.now }
     ensures { IfOk result (λ cs.
@@ -162,7 +162,7 @@ fn one_put(alloc: Global, put: Put) -> Result<Vec<Put>, AllocError>
 }
 
 /// The put of a list of elements that take so many bytes, from the puts of one.
-fn list_puts(alloc: Global, size: u32, puts: Rc<Vec<Put>>) -> Result<Vec<Put>, AllocError>
+fn list_puts(alloc: Global, size: u32, puts: Arc<Vec<Put>>) -> Result<Vec<Put>, AllocError>
     ensures { IfOk result (λ cs.
         puts_in cs.items ≡ one_put (list_put 0 size (puts_in puts.value.items))) }
 {
@@ -174,7 +174,7 @@ fn row_puts(
     alloc: Global,
     distance: u32,
     count: u32,
-    puts: Rc<Vec<Put>>,
+    puts: Arc<Vec<Put>>,
 ) -> Result<Vec<Put>, AllocError>
     ensures { IfOk result (λ cs.
         puts_in cs.items ≡ row_puts distance count (puts_in puts.value.items)) }
@@ -203,7 +203,7 @@ fn is_unwritten(puts: &[Put]) -> bool
 }
 
 /// Whether nothing is written of what any case carries.
-fn are_unwritten(cases: &[Rc<Vec<Put>>]) -> bool
+fn are_unwritten(cases: &[Arc<Vec<Put>>]) -> bool
     ensures { result ≡ are_unwritten (case_puts_from (put_lists cases.now)) }
 {
     for puts in cases {
@@ -216,7 +216,7 @@ fn are_unwritten(cases: &[Rc<Vec<Put>>]) -> bool
 
 /// The puts of what each case carries, in order; each list is shared. `AllocError` comes where
 /// there is no memory for that.
-fn case_puts(alloc: Global, cases: &[Rc<Vec<Put>>]) -> Result<Vec<CasePuts>, AllocError>
+fn case_puts(alloc: Global, cases: &[Arc<Vec<Put>>]) -> Result<Vec<CasePuts>, AllocError>
     ensures { IfOk result (λ cs. map case_of cs.items ≡ put_lists cases.now) }
 {
     let mut all = Vec::with_capacity(alloc, cases.len())?;
@@ -233,7 +233,7 @@ fn cases_puts(
     alloc: Global,
     bytes: u32,
     offset: u32,
-    cases: Vec<Rc<Vec<Put>>>,
+    cases: Vec<Arc<Vec<Put>>>,
 ) -> Result<Vec<Put>, AllocError>
     ensures { IfOk result (λ cs.
         puts_in cs.items ≡ cases_puts bytes offset (case_puts_from (put_lists cases.items))) }
@@ -247,7 +247,7 @@ fn cases_puts(
             },
         );
     }
-    let cases = Rc::new(alloc, case_puts(alloc, &cases)?)?;
+    let cases = Arc::new(alloc, case_puts(alloc, &cases)?)?;
     one_put(
         alloc,
         Put::Cases {
@@ -266,7 +266,7 @@ fn cases_puts(
 pub fn stored_puts(
     alloc: Global,
     layout: &Layout,
-    held: &[Rc<Vec<Put>>],
+    held: &[Arc<Vec<Put>>],
 ) -> Result<Vec<Put>, AllocError>
     requires { put_lists held.now ≡ map puts_of (shapes_in (layout_of layout.now).shape) }
     ensures { IfOk result (λ cs. puts_in cs.items ≡ puts_of (layout_of layout.now).shape) }

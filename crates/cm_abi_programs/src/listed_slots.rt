@@ -18,7 +18,7 @@ use crate::puts::Put;
 use crate::slots::{CaseSlotPuts, SlotPut};
 use cm_layout::{Form, Layout, Leaf};
 use std::alloc::{AllocError, Global};
-use std::rc::Rc;
+use std::sync::Arc;
 
 /// Adds puts behind others, each so far behind where it stands.
 fn push_moved(puts: &[SlotPut], by: u32, all: &mut Vec<SlotPut>) -> Result<(), AllocError>
@@ -35,7 +35,7 @@ fn push_moved(puts: &[SlotPut], by: u32, all: &mut Vec<SlotPut>) -> Result<(), A
 /// Adds the puts of a field that begins so far behind: where they are few they are written out,
 /// else the list is shared. Nothing below them is walked.
 #[tactic(auto, using(crate::proofs::SlotMakingLemmas::listed))]
-fn push_placed(puts: &Rc<Vec<SlotPut>>, at: u32, all: &mut Vec<SlotPut>) -> Result<(), AllocError>
+fn push_placed(puts: &Arc<Vec<SlotPut>>, at: u32, all: &mut Vec<SlotPut>) -> Result<(), AllocError>
     ensures { OnOk result (slots_in all.new.items
         ≡ both_slots (slots_in all.old.items)
         (placed_slots at (slots_in puts.now.value.items))) }
@@ -53,7 +53,7 @@ fn push_placed(puts: &Rc<Vec<SlotPut>>, at: u32, all: &mut Vec<SlotPut>) -> Resu
 fn placed_slots(
     alloc: Global,
     offsets: &[u32],
-    lists: &[Rc<Vec<SlotPut>>],
+    lists: &[Arc<Vec<SlotPut>>],
 ) -> Result<Vec<SlotPut>, AllocError>
     requires { length offsets.now ≡ length lists.now }
     ensures { IfOk result (λ cs.
@@ -81,7 +81,7 @@ fn leaf_slots(alloc: Global, leaf: Leaf) -> Result<Vec<SlotPut>, AllocError>
 }
 
 /// The put of a list of elements that take so many bytes, from the puts of one in memory.
-fn list_slots(alloc: Global, size: u32, puts: Rc<Vec<Put>>) -> Result<Vec<SlotPut>, AllocError>
+fn list_slots(alloc: Global, size: u32, puts: Arc<Vec<Put>>) -> Result<Vec<SlotPut>, AllocError>
     ensures { IfOk result (λ cs.
         slots_in cs.items ≡ one_slot (list_slot 0 size (puts_in puts.value.items))) }
 {
@@ -93,7 +93,7 @@ fn row_slots(
     alloc: Global,
     distance: u32,
     count: u32,
-    puts: Rc<Vec<SlotPut>>,
+    puts: Arc<Vec<SlotPut>>,
 ) -> Result<Vec<SlotPut>, AllocError>
     ensures { IfOk result (λ cs.
         slots_in cs.items ≡ one_slot (each_slot 0 distance count (slots_in puts.value.items))) }
@@ -118,7 +118,7 @@ fn is_unput(puts: &[SlotPut]) -> bool
 }
 
 /// Whether nothing is put for what any case carries.
-fn are_unput(cases: &[Rc<Vec<SlotPut>>]) -> bool
+fn are_unput(cases: &[Arc<Vec<SlotPut>>]) -> bool
     ensures { result ≡ are_unput (case_slots_from (slot_lists cases.now)) }
 {
     for puts in cases {
@@ -131,7 +131,7 @@ fn are_unput(cases: &[Rc<Vec<SlotPut>>]) -> bool
 
 /// The puts of what each case carries, in order; each list is shared. `AllocError` comes where
 /// there is no memory for that.
-fn case_slots(alloc: Global, cases: &[Rc<Vec<SlotPut>>]) -> Result<Vec<CaseSlotPuts>, AllocError>
+fn case_slots(alloc: Global, cases: &[Arc<Vec<SlotPut>>]) -> Result<Vec<CaseSlotPuts>, AllocError>
     ensures { IfOk result (λ cs. map case_of cs.items ≡ slot_lists cases.now) }
 {
     let mut all = Vec::with_capacity(alloc, cases.len())?;
@@ -143,14 +143,14 @@ fn case_slots(alloc: Global, cases: &[Rc<Vec<SlotPut>>]) -> Result<Vec<CaseSlotP
 }
 
 /// The puts of cases, from those of what each case carries.
-fn cases_slots(alloc: Global, cases: Vec<Rc<Vec<SlotPut>>>) -> Result<Vec<SlotPut>, AllocError>
+fn cases_slots(alloc: Global, cases: Vec<Arc<Vec<SlotPut>>>) -> Result<Vec<SlotPut>, AllocError>
     ensures { IfOk result (λ cs.
         slots_in cs.items ≡ cases_slots (case_slots_from (slot_lists cases.items))) }
 {
     if are_unput(&cases) {
         return leaf_slots(alloc, Leaf::Unsigned(4));
     }
-    let cases = Rc::new(alloc, case_slots(alloc, &cases)?)?;
+    let cases = Arc::new(alloc, case_slots(alloc, &cases)?)?;
     one_slot(alloc, SlotPut::Cases { at: 0, cases })
 }
 
@@ -162,8 +162,8 @@ fn cases_slots(alloc: Global, cases: Vec<Rc<Vec<SlotPut>>>) -> Result<Vec<SlotPu
 pub fn flat_puts(
     alloc: Global,
     layout: &Layout,
-    stored: &[Rc<Vec<Put>>],
-    held: &[Rc<Vec<SlotPut>>],
+    stored: &[Arc<Vec<Put>>],
+    held: &[Arc<Vec<SlotPut>>],
 ) -> Result<Vec<SlotPut>, AllocError>
     requires stored { put_lists stored.now
         ≡ map puts_of (shapes_in (layout_of layout.now).shape) }

@@ -26,14 +26,14 @@ use cm_layout_placed::Layouts;
 use cm_types_arena::Types;
 use cm_types_arena::type_laws::types_are_lawful;
 use std::alloc::{AllocError, Global};
-use std::rc::Rc;
+use std::sync::Arc;
 
 /// What has to be looked at in the values of each type of an arena, by its place: where they stand
 /// in memory, and where core values pass them.
 #[derive(Drop)]
 pub(crate) struct PlacedChecks {
-    stored: Vec<Rc<Vec<Check>>>,
-    flat: Vec<Rc<Vec<Check>>>,
+    stored: Vec<Arc<Vec<Check>>>,
+    flat: Vec<Arc<Vec<Check>>>,
 }
 
 impl PlacedChecks {
@@ -85,8 +85,8 @@ impl PlacedChecks {
         let stored = gather(alloc, &self.stored, places)?;
         let checks = stored_checks(alloc, layout, &stored)?;
         let passed = self.flat(alloc, layout, &stored, places)?;
-        self.stored.push(Rc::new(alloc, checks)?)?;
-        self.flat.push(Rc::new(alloc, passed)?)?;
+        self.stored.push(Arc::new(alloc, checks)?)?;
+        self.flat.push(Arc::new(alloc, passed)?)?;
         Ok(())
     }
 
@@ -96,7 +96,7 @@ impl PlacedChecks {
         &self,
         alloc: Global,
         layout: &Layout,
-        stored: &[Rc<Vec<Check>>],
+        stored: &[Arc<Vec<Check>>],
         places: &[usize],
     ) -> Result<Vec<Check>, AllocError>
         requires stored { check_lists stored.now

@@ -31,14 +31,14 @@ use cm_layout_placed::Layouts;
 use cm_types_arena::Types;
 use cm_types_arena::type_laws::types_are_lawful;
 use std::alloc::{AllocError, Global};
-use std::rc::Rc;
+use std::sync::Arc;
 
 /// What has to be written of the values of each type of an arena, by its place: where they stand
 /// in memory, and into core values that pass them.
 #[derive(Drop)]
 pub(crate) struct PlacedPuts {
-    stored: Vec<Rc<Vec<Put>>>,
-    flat: Vec<Rc<Vec<SlotPut>>>,
+    stored: Vec<Arc<Vec<Put>>>,
+    flat: Vec<Arc<Vec<SlotPut>>>,
 }
 
 impl PlacedPuts {
@@ -90,8 +90,8 @@ impl PlacedPuts {
         let stored = gather(alloc, &self.stored, places)?;
         let puts = stored_puts(alloc, layout, &stored)?;
         let passed = self.flat(alloc, layout, &stored, places)?;
-        self.stored.push(Rc::new(alloc, puts)?)?;
-        self.flat.push(Rc::new(alloc, passed)?)?;
+        self.stored.push(Arc::new(alloc, puts)?)?;
+        self.flat.push(Arc::new(alloc, passed)?)?;
         Ok(())
     }
 
@@ -101,7 +101,7 @@ impl PlacedPuts {
         &self,
         alloc: Global,
         layout: &Layout,
-        stored: &[Rc<Vec<Put>>],
+        stored: &[Arc<Vec<Put>>],
         places: &[usize],
     ) -> Result<Vec<SlotPut>, AllocError>
         requires stored { put_lists stored.now

@@ -5,7 +5,7 @@ ghost use Rattle.cm_abi_programs.specs.Puts.{moved_put};
 
 use crate::places::place_behind;
 use std::alloc::AllocError;
-use std::rc::Rc;
+use std::sync::Arc;
 
 /// Something to write of a value. Where it stands is counted in bytes from where the value begins,
 /// alike where it is read and where it is written.
@@ -35,14 +35,14 @@ pub enum Put {
     List {
         at: u32,
         size: u32,
-        puts: Rc<Vec<Put>>,
+        puts: Arc<Vec<Put>>,
     },
     /// So many values in a row, so far one behind the other, and the puts of each.
     Each {
         at: u32,
         distance: u32,
         count: u32,
-        puts: Rc<Vec<Put>>,
+        puts: Arc<Vec<Put>>,
     },
     /// The number of a case, of so many bytes. What the case carries stands so far behind it, and
     /// these are the puts of what each case carries.
@@ -50,7 +50,7 @@ pub enum Put {
         at: u32,
         bytes: u32,
         offset: u32,
-        cases: Rc<Vec<CasePuts>>,
+        cases: Arc<Vec<CasePuts>>,
     },
     /// A handle.
     Handle {
@@ -59,7 +59,7 @@ pub enum Put {
     /// A value with puts of its own.
     Part {
         at: u32,
-        puts: Rc<Vec<Put>>,
+        puts: Arc<Vec<Put>>,
     },
 }
 
@@ -67,7 +67,7 @@ pub enum Put {
 #[cycle(puts)]
 #[derive(Drop)]
 pub struct CasePuts {
-    pub puts: Rc<Vec<Put>>,
+    pub puts: Arc<Vec<Put>>,
 }
 
 impl Put {

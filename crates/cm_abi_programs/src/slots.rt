@@ -7,7 +7,7 @@ use crate::places::place_behind;
 use crate::puts::Put;
 use cm_layout::Leaf;
 use std::alloc::AllocError;
-use std::rc::Rc;
+use std::sync::Arc;
 
 /// Something to put into core values for a value. Where it stands is counted in core values from
 /// the first one of the value, alike where it is read and where it is put.
@@ -27,20 +27,20 @@ pub enum SlotPut {
     List {
         at: u32,
         size: u32,
-        puts: Rc<Vec<Put>>,
+        puts: Arc<Vec<Put>>,
     },
     /// So many values in a row, so far one behind the other, and the puts of each.
     Each {
         at: u32,
         distance: u32,
         count: u32,
-        puts: Rc<Vec<SlotPut>>,
+        puts: Arc<Vec<SlotPut>>,
     },
     /// The number of a case, with what it carries behind it, and the puts of what each case
     /// carries.
     Cases {
         at: u32,
-        cases: Rc<Vec<CaseSlotPuts>>,
+        cases: Arc<Vec<CaseSlotPuts>>,
     },
     /// A handle.
     Handle {
@@ -49,7 +49,7 @@ pub enum SlotPut {
     /// A value with puts of its own.
     Part {
         at: u32,
-        puts: Rc<Vec<SlotPut>>,
+        puts: Arc<Vec<SlotPut>>,
     },
 }
 
@@ -57,7 +57,7 @@ pub enum SlotPut {
 #[cycle(slots)]
 #[derive(Drop)]
 pub struct CaseSlotPuts {
-    pub puts: Rc<Vec<SlotPut>>,
+    pub puts: Arc<Vec<SlotPut>>,
 }
 
 impl SlotPut {

@@ -3,7 +3,7 @@ use Rattle.std.proofs.Common.{◌≡◌, ℕ, zero, suc, ◌+◌, ◌*◌, ◌<�
 use Rattle.std.proofs.lemmas.Bool.{le-ltb, lt-ltb}
 use Rattle.std.proofs.lemmas.Bool.Decides.{nat_tests}
 use Rattle.std.specs.Prelude.{true, false, ◌==◌, IfErr, OnOk, nat_lt, if◌then◌else◌, Result, Ok, Err, ⊤}
-use Rattle.std.specs.declared.rc.Rc.{Rc}
+use Rattle.std.specs.declared.sync.Arc.{Arc}
 use Rattle.cm_types.specs.declared.core_value.CoreValue.{CoreValue}
 use Rattle.cm_types.specs.TypedValues.{is_scalar_value}
 use Rattle.cm_layout.specs.declared.heads.Head.{Head}
@@ -77,7 +77,7 @@ module _ (w : Source) (t : StringEncoding) (f : Numbers) where
         by_form (text_check at) (ap check_of is ∙ seen_Text at)
         (subst (λ y. Looks (text_checked w t (f.number 4 (p + at)) y s) old new s u r) second (subst (λ x. Looks (text_checked w t x m s) old new s u r) first looks))
 
-    pub look_List : (at n m : ℕ) (e : Head) (cs : Rc (Vec CodedCheck Global) Global) (items : List CodedCheck) → c ≡ view.List at e cs → items ≡ cs.value.items → n ≡ f.number 4 (p + at) → m ≡ f.number 4 (p + at + f.length_behind)
+    pub look_List : (at n m : ℕ) (e : Head) (cs : Arc (Vec CodedCheck Global) Global) (items : List CodedCheck) → c ≡ view.List at e cs → items ≡ cs.value.items → n ≡ f.number 4 (p + at) → m ≡ f.number 4 (p + at + f.length_behind)
         → Looks (elements_checked w (all_checked w t (in_memory w.memory) (checks_in items)) e n m s) old new s u r → Looks (checked w t f (check_of c) p s) old new s u r
     look_List at n m e cs items is same first second looks =
         let C = all_checked w t (in_memory w.memory) (checks_in cs.value.items) in
@@ -86,13 +86,13 @@ module _ (w : Source) (t : StringEncoding) (f : Numbers) where
         (subst (λ x. Looks (elements_checked w C e x m s) old new s u r) first
         (subst (λ xs. Looks (elements_checked w (all_checked w t (in_memory w.memory) (checks_in xs)) e n m s) old new s u r) same looks)))
 
-    pub look_Each : (at d n : ℕ) (cs : Rc (Vec CodedCheck Global) Global) (items : List CodedCheck) → c ≡ view.Each at d n cs → items ≡ cs.value.items
+    pub look_Each : (at d n : ℕ) (cs : Arc (Vec CodedCheck Global) Global) (items : List CodedCheck) → c ≡ view.Each at d n cs → items ≡ cs.value.items
         → Looks (checked_each (all_checked w t f (checks_in items)) d n (p + at) s) old new s u r → Looks (checked w t f (check_of c) p s) old new s u r
     look_Each at d n cs items is same looks =
         by_form (each_check at d n (checks_in cs.value.items)) (ap check_of is ∙ seen_Each at d n cs)
         (subst (λ xs. Looks (checked_each (all_checked w t f (checks_in xs)) d n (p + at) s) old new s u r) same looks)
 
-    pub look_Case : (at b d i : ℕ) (cs : Rc (Vec CodedCase Global) Global) (x : CodedCase) (items : List CodedCheck) → c ≡ view.Cases at b d cs → i ≡ f.number b (p + at)
+    pub look_Case : (at b d i : ℕ) (cs : Arc (Vec CodedCase Global) Global) (x : CodedCase) (items : List CodedCheck) → c ≡ view.Cases at b d cs → i ≡ f.number b (p + at)
         → i < length cs.value.items → x ≡ get_or cs.value.items i x → items ≡ (out-CaseChecks x).checks.value.items → Looks (all_checked w t f (checks_in items) (p + at + d) s) old new s u r → Looks (checked w t f (check_of c) p s) old new s u r
     look_Case at b d i cs x items is number lt there same looks =
         by_form (cases_check at b d (cases_from (map case_of cs.value.items))) (ap check_of is ∙ seen_Cases at b d cs)
@@ -103,12 +103,12 @@ module _ (w : Source) (t : StringEncoding) (f : Numbers) where
     pub look_Handle : (at n : ℕ) (h : HandleType) → c ≡ variant.Handle at h → n ≡ f.number 4 (p + at) → Looks (unrecorded (read_handle w.table h n s)) old new s u r → Looks (checked w t f (check_of c) p s) old new s u r
     look_Handle at n h is number looks = by_form (handle_check at h) (ap check_of is ∙ seen_Handle at h) (subst (λ m. Looks (unrecorded (read_handle w.table h m s)) old new s u r) number looks)
 
-    pub look_Part : (at : ℕ) (cs : Rc (Vec CodedCheck Global) Global) (items : List CodedCheck) → c ≡ view.Part at cs → items ≡ cs.value.items → Looks (all_checked w t f (checks_in items) (p + at) s) old new s u r → Looks (checked w t f (check_of c) p s) old new s u r
+    pub look_Part : (at : ℕ) (cs : Arc (Vec CodedCheck Global) Global) (items : List CodedCheck) → c ≡ view.Part at cs → items ≡ cs.value.items → Looks (all_checked w t f (checks_in items) (p + at) s) old new s u r → Looks (checked w t f (check_of c) p s) old new s u r
     look_Part at cs items is same looks =
         by_form (part_check at (checks_in cs.value.items)) (ap check_of is ∙ seen_Part at cs) (subst (λ xs. Looks (all_checked w t f (checks_in xs) (p + at) s) old new s u r) same looks)
 
   -- past the last case
-  pub look_past : (c : CodedCheck) (p : ℕ) (s : State) (at b d i : ℕ) (cs : Rc (Vec CodedCase Global) Global) → c ≡ view.Cases at b d cs → i ≡ f.number b (p + at)
+  pub look_past : (c : CodedCheck) (p : ℕ) (s : State) (at b d i : ℕ) (cs : Arc (Vec CodedCase Global) Global) → c ≡ view.Cases at b d cs → i ≡ f.number b (p + at)
       → length cs.value.items ≤ i → checked w t f (check_of c) p s ≡ Err (fault.BadCase, s)
   look_past c p s at b d i cs is number past =
       ap (λ y. checked w t f y p s) (ap check_of is ∙ seen_Cases at b d cs)

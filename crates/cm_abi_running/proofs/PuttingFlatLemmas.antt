@@ -2,7 +2,7 @@
 use Rattle.std.proofs.Common.{◌≡◌, ℕ, zero, suc, ◌+◌, ◌*◌, ◌-◌, ◌<◌, ◌≤◌, ◌==◌, List, [], ◌∷◌, ◌++◌, length, drop, drop-cons, add-one, map, get_or, Vec, Global, refl, sym, ap, subst, ◌∙◌, arith}
 use Rattle.std.proofs.lemmas.Bool.Decides.{nat_tests}
 use Rattle.std.specs.Prelude.{true}
-use Rattle.std.specs.declared.rc.Rc.{Rc}
+use Rattle.std.specs.declared.sync.Arc.{Arc}
 use Rattle.cm_types.specs.declared.core_value.CoreValue.{CoreValue}
 use Rattle.cm_abi_model.specs.Numbers.{wrapped_at}
 use Rattle.cm_abi_model.specs.Receives.{put as put_in}
@@ -188,10 +188,10 @@ empty_row c given (x ∷ cs) d n s next slots m none = absurd (some (length cs) 
 -- ---- each form of a put
 
 module _ (x : CodedSlot) where
-  pub form_Each : (at d n : ℕ) (cs : Rc (Vec CodedSlot Global) Global) (items : List CodedSlot) → x ≡ view.Each at d n cs → items ≡ cs.value.items → slot_of x ≡ each_slot at d n (slots_in items)
+  pub form_Each : (at d n : ℕ) (cs : Arc (Vec CodedSlot Global) Global) (items : List CodedSlot) → x ≡ view.Each at d n cs → items ≡ cs.value.items → slot_of x ≡ each_slot at d n (slots_in items)
   form_Each at d n cs items is same = ap slot_of is ∙ seen_Each at d n cs ∙ ap (λ xs. each_slot at d n (slots_in xs)) (sym same)
 
-  pub form_Cases : (at : ℕ) (cs : Rc (Vec CodedCase Global) Global) → x ≡ view.Cases at cs → slot_of x ≡ cases_slot at (case_slots_from (map case_of cs.value.items))
+  pub form_Cases : (at : ℕ) (cs : Arc (Vec CodedCase Global) Global) → x ≡ view.Cases at cs → slot_of x ≡ cases_slot at (case_slots_from (map case_of cs.value.items))
   form_Cases at cs is = ap slot_of is ∙ seen_Cases at cs
 
 pub lies_as : (a b : SlotPut) (s slots : ℕ) → a ≡ b → SlotLiesWithin a s slots → SlotLiesWithin b s slots
@@ -229,7 +229,7 @@ case_lies m [] i x lt is h = absurd (omega (arith, lt))
 case_lies m (y ∷ cs) zero x lt is h = subst (λ r. AreSlotsWithin m (case_of r)) (sym is) h.0
 case_lies m (y ∷ cs) (suc i) x lt is h = case_lies m cs i x (omega (arith, lt)) is h.1
 
-module _ (c : Copying) (given : List CoreValue) (x : CodedSlot) (at : ℕ) (cs : Rc (Vec CodedCase Global) Global) (is : x ≡ view.Cases at cs)
+module _ (c : Copying) (given : List CoreValue) (x : CodedSlot) (at : ℕ) (cs : Arc (Vec CodedCase Global) Global) (is : x ≡ view.Cases at cs)
     (s i : ℕ) (next : Next) (s0 s1 m0 : List ℕ) (number : i ≡ wrapped_at 4 given (s + at)) where
   abbrev CS : CaseSlotPuts
   CS = case_slots_from (map case_of cs.value.items)

@@ -4,7 +4,7 @@ use Rattle.std.proofs.lemmas.Bool.{and_parts, eqb-true}
 use Rattle.std.proofs.lemmas.Bool.Decides.{nat_tests}
 use Rattle.std.proofs.lemmas.Nat.{mul-le}
 use Rattle.std.specs.Prelude.{false, true, slice_index, Option, Some, None}
-use Rattle.std.specs.declared.rc.Rc.{Rc}
+use Rattle.std.specs.declared.sync.Arc.{Arc}
 use Rattle.cm_abi_model.specs.Numbers.{number_at}
 use Rattle.cm_abi_model.specs.Requests.{text_bytes, text_units}
 use Rattle.cm_abi_model.specs.Stores.{bytes_of, place_of, placed, pointer_bytes, poke}
@@ -350,13 +350,13 @@ elements_ready c cs d p k h mid m0 m1 pointer count place pointer_is count_is pl
 -- ---- each form of a put
 
 module _ (x : CodedPut) where
-  pub form_List : (at d : ℕ) (cs : Rc (Vec CodedPut Global) Global) (items : List CodedPut) → x ≡ view.List at d cs → items ≡ cs.value.items → put_of x ≡ list_put at d (puts_in items)
+  pub form_List : (at d : ℕ) (cs : Arc (Vec CodedPut Global) Global) (items : List CodedPut) → x ≡ view.List at d cs → items ≡ cs.value.items → put_of x ≡ list_put at d (puts_in items)
   form_List at d cs items is same = ap put_of is ∙ seen_List at d cs ∙ ap (λ xs. list_put at d (puts_in xs)) (sym same)
 
-  pub form_Each : (at d n : ℕ) (cs : Rc (Vec CodedPut Global) Global) (items : List CodedPut) → x ≡ view.Each at d n cs → items ≡ cs.value.items → put_of x ≡ each_put at d n (puts_in items)
+  pub form_Each : (at d n : ℕ) (cs : Arc (Vec CodedPut Global) Global) (items : List CodedPut) → x ≡ view.Each at d n cs → items ≡ cs.value.items → put_of x ≡ each_put at d n (puts_in items)
   form_Each at d n cs items is same = ap put_of is ∙ seen_Each at d n cs ∙ ap (λ xs. each_put at d n (puts_in xs)) (sym same)
 
-  pub form_Cases : (at b d : ℕ) (cs : Rc (Vec CodedCase Global) Global) → x ≡ view.Cases at b d cs → put_of x ≡ cases_put at b d (case_puts_from (map case_of cs.value.items))
+  pub form_Cases : (at b d : ℕ) (cs : Arc (Vec CodedCase Global) Global) → x ≡ view.Cases at b d cs → put_of x ≡ cases_put at b d (case_puts_from (map case_of cs.value.items))
   form_Cases at b d cs is = ap put_of is ∙ seen_Cases at b d cs
 
 pub lies_as : (a b : Put) (p source q memory : ℕ) → a ≡ b → LiesBetween a p source q memory → LiesBetween b p source q memory
@@ -393,7 +393,7 @@ case_lies m [] i x lt is h = absurd (omega (arith, lt))
 case_lies m (y ∷ cs) zero x lt is h = subst (λ r. ArePutsWithin m (case_of r)) (sym is) h.0
 case_lies m (y ∷ cs) (suc i) x lt is h = case_lies m cs i x (omega (arith, lt)) is h.1
 
-module _ (c : Copying) (x : CodedPut) (at b d : ℕ) (cs : Rc (Vec CodedCase Global) Global) (is : x ≡ view.Cases at b d cs)
+module _ (c : Copying) (x : CodedPut) (at b d : ℕ) (cs : Arc (Vec CodedCase Global) Global) (is : x ≡ view.Cases at b d cs)
     (p q i : ℕ) (next : Next) (m0 m1 : List ℕ) (number : i ≡ number_at b c.memory (p + at)) where
   abbrev CS : CasePuts
   CS = case_puts_from (map case_of cs.value.items)

@@ -1,7 +1,7 @@
 -- Where what a check looks at lies.
 use Rattle.std.proofs.Common.{◌≡◌, ℕ, zero, suc, ◌+◌, ◌*◌, ◌^◌, ◌<◌, ◌≤◌, ◌⊎◌, inl, inr, List, [], ◌∷◌, length, get_or, map, Vec, Global, refl, sym, ap, subst, ◌∙◌, arith}
 use Rattle.std.proofs.lemmas.Nat.{mul-le}
-use Rattle.std.specs.declared.rc.Rc.{Rc}
+use Rattle.std.specs.declared.sync.Arc.{Arc}
 use Rattle.cm_layout.specs.declared.heads.Head.{Head}
 use Rattle.cm_layout.specs.declared.layouts.HandleType.{HandleType}
 use Rattle.cm_abi_load.specs.Sized.{IsNumberSize}
@@ -53,40 +53,40 @@ module _ (c : CodedCheck) (p len : ℕ) where
       let h : LiesWithin (text_check at) p len = seen_as c (text_check at) p len (ap check_of is ∙ seen_Text at) lies in
       omega (arith, h.within, h.room)
 
-  list_lies : (at : ℕ) (e : Head) (cs : Rc (Vec CodedCheck Global) Global) → c ≡ view.List at e cs → LiesWithin (check_of c) p len → LiesWithin (list_check at e (checks_in cs.value.items)) p len
+  list_lies : (at : ℕ) (e : Head) (cs : Arc (Vec CodedCheck Global) Global) → c ≡ view.List at e cs → LiesWithin (check_of c) p len → LiesWithin (list_check at e (checks_in cs.value.items)) p len
   list_lies at e cs is lies = seen_as c (list_check at e (checks_in cs.value.items)) p len (ap check_of is ∙ seen_List at e cs) lies
 
-  pub room_List : (at : ℕ) (e : Head) (cs : Rc (Vec CodedCheck Global) Global) → c ≡ view.List at e cs → LiesWithin (check_of c) p len → p + at + 8 ≤ len
+  pub room_List : (at : ℕ) (e : Head) (cs : Arc (Vec CodedCheck Global) Global) → c ≡ view.List at e cs → LiesWithin (check_of c) p len → p + at + 8 ≤ len
   room_List at e cs is lies = let h = list_lies at e cs is lies in omega (arith, h.within.0, h.room)
 
-  pub aligned_List : (at : ℕ) (e : Head) (cs : Rc (Vec CodedCheck Global) Global) → c ≡ view.List at e cs → LiesWithin (check_of c) p len → 0 < e.align
+  pub aligned_List : (at : ℕ) (e : Head) (cs : Arc (Vec CodedCheck Global) Global) → c ≡ view.List at e cs → LiesWithin (check_of c) p len → 0 < e.align
   aligned_List at e cs is lies = (list_lies at e cs is lies).within.1
 
-  pub each_List : (at : ℕ) (e : Head) (cs : Rc (Vec CodedCheck Global) Global) (items : List CodedCheck) → c ≡ view.List at e cs → LiesWithin (check_of c) p len → items ≡ cs.value.items → AreWithin e.size (checks_in items)
+  pub each_List : (at : ℕ) (e : Head) (cs : Arc (Vec CodedCheck Global) Global) (items : List CodedCheck) → c ≡ view.List at e cs → LiesWithin (check_of c) p len → items ≡ cs.value.items → AreWithin e.size (checks_in items)
   each_List at e cs items is lies same = subst (λ xs. AreWithin e.size (checks_in xs)) (sym same) (list_lies at e cs is lies).within.2
 
-  each_lies : (at d n : ℕ) (cs : Rc (Vec CodedCheck Global) Global) → c ≡ view.Each at d n cs → LiesWithin (check_of c) p len → LiesWithin (each_check at d n (checks_in cs.value.items)) p len
+  each_lies : (at d n : ℕ) (cs : Arc (Vec CodedCheck Global) Global) → c ≡ view.Each at d n cs → LiesWithin (check_of c) p len → LiesWithin (each_check at d n (checks_in cs.value.items)) p len
   each_lies at d n cs is lies = seen_as c (each_check at d n (checks_in cs.value.items)) p len (ap check_of is ∙ seen_Each at d n cs) lies
 
-  pub room_Each : (at d n : ℕ) (cs : Rc (Vec CodedCheck Global) Global) → c ≡ view.Each at d n cs → LiesWithin (check_of c) p len → p + at + n * d ≤ len
+  pub room_Each : (at d n : ℕ) (cs : Arc (Vec CodedCheck Global) Global) → c ≡ view.Each at d n cs → LiesWithin (check_of c) p len → p + at + n * d ≤ len
   room_Each at d n cs is lies = let h = each_lies at d n cs is lies in omega (arith, h.within.0, h.room)
 
-  pub each_Each : (at d n : ℕ) (cs : Rc (Vec CodedCheck Global) Global) (items : List CodedCheck) → c ≡ view.Each at d n cs → LiesWithin (check_of c) p len → items ≡ cs.value.items → AreWithin d (checks_in items)
+  pub each_Each : (at d n : ℕ) (cs : Arc (Vec CodedCheck Global) Global) (items : List CodedCheck) → c ≡ view.Each at d n cs → LiesWithin (check_of c) p len → items ≡ cs.value.items → AreWithin d (checks_in items)
   each_Each at d n cs items is lies same = subst (λ xs. AreWithin d (checks_in xs)) (sym same) (each_lies at d n cs is lies).within.1
 
-  cases_lie : (at b d : ℕ) (cs : Rc (Vec CodedCase Global) Global) → c ≡ view.Cases at b d cs → LiesWithin (check_of c) p len → LiesWithin (cases_check at b d (cases_from (map case_of cs.value.items))) p len
+  cases_lie : (at b d : ℕ) (cs : Arc (Vec CodedCase Global) Global) → c ≡ view.Cases at b d cs → LiesWithin (check_of c) p len → LiesWithin (cases_check at b d (cases_from (map case_of cs.value.items))) p len
   cases_lie at b d cs is lies = seen_as c (cases_check at b d (cases_from (map case_of cs.value.items))) p len (ap check_of is ∙ seen_Cases at b d cs) lies
 
-  pub room_Cases : (at b d : ℕ) (cs : Rc (Vec CodedCase Global) Global) → c ≡ view.Cases at b d cs → LiesWithin (check_of c) p len → p + at + b ≤ len
+  pub room_Cases : (at b d : ℕ) (cs : Arc (Vec CodedCase Global) Global) → c ≡ view.Cases at b d cs → LiesWithin (check_of c) p len → p + at + b ≤ len
   room_Cases at b d cs is lies = let h = cases_lie at b d cs is lies in omega (arith, h.within.0, h.room)
 
-  pub size_Cases : (at b d : ℕ) (cs : Rc (Vec CodedCase Global) Global) → c ≡ view.Cases at b d cs → LiesWithin (check_of c) p len → IsNumberSize b
+  pub size_Cases : (at b d : ℕ) (cs : Arc (Vec CodedCase Global) Global) → c ≡ view.Cases at b d cs → LiesWithin (check_of c) p len → IsNumberSize b
   size_Cases at b d cs is lies = (cases_lie at b d cs is lies).within.1
 
-  pub fits_Cases : (at b d m : ℕ) (cs : Rc (Vec CodedCase Global) Global) → c ≡ view.Cases at b d cs → LiesWithin (check_of c) p len → m < 2 ^ (8 * b) → m < 2 ^ 32
+  pub fits_Cases : (at b d m : ℕ) (cs : Arc (Vec CodedCase Global) Global) → c ≡ view.Cases at b d cs → LiesWithin (check_of c) p len → m < 2 ^ (8 * b) → m < 2 ^ 32
   fits_Cases at b d m cs is lies fits = let h = cases_lie at b d cs is lies in fits_32 m b h.within.1 h.within.2 fits
 
-  pub room_payload : (at b d : ℕ) (cs : Rc (Vec CodedCase Global) Global) → c ≡ view.Cases at b d cs → LiesWithin (check_of c) p len → p + at + d ≤ len
+  pub room_payload : (at b d : ℕ) (cs : Arc (Vec CodedCase Global) Global) → c ≡ view.Cases at b d cs → LiesWithin (check_of c) p len → p + at + d ≤ len
   room_payload at b d cs is lies = let h = cases_lie at b d cs is lies in omega (arith, h.within.3.1, h.room)
 
   case_lies : (m : ℕ) (cs : List CodedCase) (i : ℕ) (x : CodedCase) → i < length cs → x ≡ get_or cs i x → AreCasesWithin m (cases_from (map case_of cs)) → AreWithin m (case_of x)
@@ -94,7 +94,7 @@ module _ (c : CodedCheck) (p len : ℕ) where
   case_lies m (y ∷ cs) zero x lt is h = subst (λ r. AreWithin m (case_of r)) (sym is) h.0
   case_lies m (y ∷ cs) (suc i) x lt is h = case_lies m cs i x (omega (arith, lt)) is h.1
 
-  pub case_Cases : (at b d : ℕ) (cs : Rc (Vec CodedCase Global) Global) (i : ℕ) (x : CodedCase) (items : List CodedCheck) → c ≡ view.Cases at b d cs → LiesWithin (check_of c) p len
+  pub case_Cases : (at b d : ℕ) (cs : Arc (Vec CodedCase Global) Global) (i : ℕ) (x : CodedCase) (items : List CodedCheck) → c ≡ view.Cases at b d cs → LiesWithin (check_of c) p len
       → i < length cs.value.items → x ≡ get_or cs.value.items i x → items ≡ (out-CaseChecks x).checks.value.items → LieWithin (checks_in items) (p + at + d) len
   case_Cases at b d cs i x items is lies lt there same =
       let h = cases_lie at b d cs is lies in
@@ -109,13 +109,13 @@ module _ (c : CodedCheck) (p len : ℕ) where
       let h : LiesWithin (handle_check at t) p len = seen_as c (handle_check at t) p len (ap check_of is ∙ seen_Handle at t) lies in
       omega (arith, h.within, h.room)
 
-  part_lies : (at : ℕ) (cs : Rc (Vec CodedCheck Global) Global) → c ≡ view.Part at cs → LiesWithin (check_of c) p len → LiesWithin (part_check at (checks_in cs.value.items)) p len
+  part_lies : (at : ℕ) (cs : Arc (Vec CodedCheck Global) Global) → c ≡ view.Part at cs → LiesWithin (check_of c) p len → LiesWithin (part_check at (checks_in cs.value.items)) p len
   part_lies at cs is lies = seen_as c (part_check at (checks_in cs.value.items)) p len (ap check_of is ∙ seen_Part at cs) lies
 
-  pub room_Part : (at : ℕ) (cs : Rc (Vec CodedCheck Global) Global) → c ≡ view.Part at cs → LiesWithin (check_of c) p len → p + at ≤ len
+  pub room_Part : (at : ℕ) (cs : Arc (Vec CodedCheck Global) Global) → c ≡ view.Part at cs → LiesWithin (check_of c) p len → p + at ≤ len
   room_Part at cs is lies = let h = part_lies at cs is lies in omega (arith, h.within.1, h.room)
 
-  pub part_Part : (at : ℕ) (cs : Rc (Vec CodedCheck Global) Global) (items : List CodedCheck) → c ≡ view.Part at cs → LiesWithin (check_of c) p len → items ≡ cs.value.items → LieWithin (checks_in items) (p + at) len
+  pub part_Part : (at : ℕ) (cs : Arc (Vec CodedCheck Global) Global) (items : List CodedCheck) → c ≡ view.Part at cs → LiesWithin (check_of c) p len → items ≡ cs.value.items → LieWithin (checks_in items) (p + at) len
   part_Part at cs items is lies same =
       let h = part_lies at cs is lies in
       record {
@@ -152,16 +152,16 @@ module _ (c : CodedCheck) where
   seen_behind : (x : Check) → check_of c ≡ x → IsBehind (check_of c) → IsBehind x
   seen_behind x is lies = subst (λ y. IsBehind y) is lies
 
-  list_behind : (at : ℕ) (e : Head) (cs : Rc (Vec CodedCheck Global) Global) → c ≡ view.List at e cs → IsBehind (check_of c) → IsBehind (list_check at e (checks_in cs.value.items))
+  list_behind : (at : ℕ) (e : Head) (cs : Arc (Vec CodedCheck Global) Global) → c ≡ view.List at e cs → IsBehind (check_of c) → IsBehind (list_check at e (checks_in cs.value.items))
   list_behind at e cs is lies = seen_behind (list_check at e (checks_in cs.value.items)) (ap check_of is ∙ seen_List at e cs) lies
 
-  pub aligned_behind : (at : ℕ) (e : Head) (cs : Rc (Vec CodedCheck Global) Global) → c ≡ view.List at e cs → IsBehind (check_of c) → 0 < e.align
+  pub aligned_behind : (at : ℕ) (e : Head) (cs : Arc (Vec CodedCheck Global) Global) → c ≡ view.List at e cs → IsBehind (check_of c) → 0 < e.align
   aligned_behind at e cs is lies = (list_behind at e cs is lies).0
 
-  pub elements_behind : (at : ℕ) (e : Head) (cs : Rc (Vec CodedCheck Global) Global) (items : List CodedCheck) → c ≡ view.List at e cs → IsBehind (check_of c) → items ≡ cs.value.items → AreWithin e.size (checks_in items)
+  pub elements_behind : (at : ℕ) (e : Head) (cs : Arc (Vec CodedCheck Global) Global) (items : List CodedCheck) → c ≡ view.List at e cs → IsBehind (check_of c) → items ≡ cs.value.items → AreWithin e.size (checks_in items)
   elements_behind at e cs items is lies same = subst (λ xs. AreWithin e.size (checks_in xs)) (sym same) (list_behind at e cs is lies).1
 
-  pub row_behind : (at d n : ℕ) (cs : Rc (Vec CodedCheck Global) Global) (items : List CodedCheck) → c ≡ view.Each at d n cs → IsBehind (check_of c) → items ≡ cs.value.items → AreBehind (checks_in items)
+  pub row_behind : (at d n : ℕ) (cs : Arc (Vec CodedCheck Global) Global) (items : List CodedCheck) → c ≡ view.Each at d n cs → IsBehind (check_of c) → items ≡ cs.value.items → AreBehind (checks_in items)
   row_behind at d n cs items is lies same =
       subst (λ xs. AreBehind (checks_in xs)) (sym same) (seen_behind (each_check at d n (checks_in cs.value.items)) (ap check_of is ∙ seen_Each at d n cs) lies)
 
@@ -170,13 +170,13 @@ module _ (c : CodedCheck) where
   case_behind (y ∷ cs) zero x lt is h = subst (λ r. AreBehind (case_of r)) (sym is) h.0
   case_behind (y ∷ cs) (suc i) x lt is h = case_behind cs i x (omega (arith, lt)) is h.1
 
-  pub payload_behind : (at b d : ℕ) (cs : Rc (Vec CodedCase Global) Global) (i : ℕ) (x : CodedCase) (items : List CodedCheck) → c ≡ view.Cases at b d cs → IsBehind (check_of c)
+  pub payload_behind : (at b d : ℕ) (cs : Arc (Vec CodedCase Global) Global) (i : ℕ) (x : CodedCase) (items : List CodedCheck) → c ≡ view.Cases at b d cs → IsBehind (check_of c)
       → i < length cs.value.items → x ≡ get_or cs.value.items i x → items ≡ (out-CaseChecks x).checks.value.items → AreBehind (checks_in items)
   payload_behind at b d cs i x items is lies lt there same =
       subst AreBehind (case_is x ∙ ap checks_in (sym same))
       (case_behind cs.value.items i x lt there (seen_behind (cases_check at b d (cases_from (map case_of cs.value.items))) (ap check_of is ∙ seen_Cases at b d cs) lies))
 
-  pub part_behind : (at : ℕ) (cs : Rc (Vec CodedCheck Global) Global) (items : List CodedCheck) → c ≡ view.Part at cs → IsBehind (check_of c) → items ≡ cs.value.items → AreBehind (checks_in items)
+  pub part_behind : (at : ℕ) (cs : Arc (Vec CodedCheck Global) Global) (items : List CodedCheck) → c ≡ view.Part at cs → IsBehind (check_of c) → items ≡ cs.value.items → AreBehind (checks_in items)
   part_behind at cs items is lies same =
       subst (λ xs. AreBehind (checks_in xs)) (sym same) (seen_behind (part_check at (checks_in cs.value.items)) (ap check_of is ∙ seen_Part at cs) lies)
 

@@ -50,18 +50,25 @@ impl Model for Table {
     ghost invariant = { λ t. IsThreaded t.slots.items t.first t.free };
 }
 
+/// The handle that stands at an index of slots, if one does.
+fn stands(slots: &[Slot], index: u32) -> Option<Handle>
+    ensures { result ≡ slice_index_or (None ∷ map handle_in slots.now) index None }
+{
+    if index == 0 {
+        return None;
+    }
+    match slots.get(index as usize - 1) {
+        Some(slot) => slot.handle(),
+        None => None,
+    }
+}
+
 /// The handle of an index among slots.
 fn look(slots: &[Slot], index: u32, resource: ResourceId) -> Result<Handle, HandleFault>
     ensures { result ≡ of_resource (slice_index_or (None
         ∷ map handle_in slots.now) index None) resource }
 {
-    if index == 0 {
-        return Err(HandleFault::NoHandle);
-    }
-    let Some(slot) = slots.get(index as usize - 1) else {
-        return Err(HandleFault::NoHandle);
-    };
-    match slot.handle() {
+    match stands(slots, index) {
         Some(handle) => {
             if handle.resource == resource {
                 Ok(handle)
@@ -108,6 +115,20 @@ impl Table {
         ensures sound { IsSoundTable self.now }
     {
         look(&self.slots, index, resource)
+    }
+
+    /// The handle at `index`, of whatever resource, if one stands there.
+    pub fn at(&self, index: u32) -> Option<Handle>
+        ensures { result ≡ handle_at self.now.handles index }
+    {
+        stands(&self.slots, index)
+    }
+
+    /// How many indices the table has, 0 among them: no handle stands at another.
+    pub fn indices(&self) -> usize
+        ensures { result ≡ length self.now.handles.slots }
+    {
+        self.slots.len() + 1
     }
 
     /// Adds a handle, as it is, at the next index, which is the answer (CanonicalABI.md, "Table

@@ -7,10 +7,10 @@ use std::alloc::{AllocError, Global};
 use std::collections::VecDeque;
 
 /// The script of a file; without one, that of guests that stop at once.
-pub(crate) fn script_of<'a, 'b, 'c, F: Files>(
+pub(crate) fn script_of<'a, F: Files>(
     alloc: Global,
     name: Option<&'a str>,
-    components: &'b [Checked<'c>],
+    components: &[Checked<'_>],
     files: &mut F,
 ) -> Result<HuxScript, Fault<'a>> {
     let Some(name) = name else {

@@ -54,7 +54,8 @@ pub enum Change<'a> {
     /// Only the old one has it. Of an interface of which the new one has another version, that is
     /// not compatible, also its name.
     Gone { other: Option<&'a str> },
-    /// Only the new one has it; the same of the old one.
+    /// Only the new one has it. Of an interface of which the old one has another version, that is
+    /// not compatible, also its name.
     New { other: Option<&'a str> },
     /// It is of another type.
     Changed { was: String, is: String },

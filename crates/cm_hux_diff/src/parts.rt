@@ -1,45 +1,37 @@
 //! The words of texts that show functions and types, and the types that begin at them.
 
+use cm_names::TextNumbers;
 use std::alloc::{AllocError, Global};
 use std::collections::BTreeMap;
 
-/// Numbers of words and of pairs of numbers, above 0: types that are spelled alike have one number.
+/// Numbers of words, which are even, and of pairs of numbers, which are odd, above 0: types that
+/// are spelled alike have one number.
 #[derive(Drop)]
-pub(crate) struct Numbers<'t> {
-    words: BTreeMap<&'t str, u64>,
+pub(crate) struct Numbers {
+    words: TextNumbers,
     pairs: BTreeMap<(u64, u64), u64>,
-    count: u64,
 }
 
-impl<'t> Numbers<'t> {
+impl Numbers {
     /// Nothing has a number yet.
-    pub(crate) fn new(alloc: Global) -> Numbers<'t> {
+    pub(crate) fn new(alloc: Global) -> Numbers {
         Numbers {
-            words: BTreeMap::new(alloc),
+            words: TextNumbers::new(alloc),
             pairs: BTreeMap::new(alloc),
-            count: 0,
         }
     }
 
-    fn next(&mut self) -> u64 {
-        self.count = self.count.saturating_add(1);
-        self.count
-    }
-
-    fn word(&mut self, word: &'t str) -> Result<u64, AllocError> {
-        if let Some(number) = self.words.get(&word) {
-            return Ok(*number);
-        }
-        let number = self.next();
-        self.words.insert(word, number)?;
-        Ok(number)
+    fn word(&mut self, word: &str) -> Result<u64, AllocError> {
+        let number = self.words.number(word)? as u64;
+        Ok(number.saturating_mul(2).saturating_add(2))
     }
 
     fn pair(&mut self, first: u64, second: u64) -> Result<u64, AllocError> {
         if let Some(number) = self.pairs.get(&(first, second)) {
             return Ok(*number);
         }
-        let number = self.next();
+        let count = self.pairs.len() as u64;
+        let number = count.saturating_mul(2).saturating_add(1);
         self.pairs.insert((first, second), number)?;
         Ok(number)
     }
@@ -60,8 +52,9 @@ enum Sort {
 
 /// A word, a bracket, a colon or a comma of a text.
 #[derive(Clone, Copy)]
-pub(crate) struct Part<'t> {
-    pub(crate) text: &'t str,
+pub(crate) struct Part {
+    /// The number of its text.
+    pub(crate) word: u64,
     sort: Sort,
     /// The number of the type that begins here, or 0.
     pub(crate) ty: u64,
@@ -71,15 +64,17 @@ pub(crate) struct Part<'t> {
 
 /// The parts of a text so far, and for each bracket that is open whether labels stand in it.
 #[derive(Drop)]
-struct Reading<'t> {
-    parts: Vec<Part<'t>>,
+struct Reading<'n> {
+    numbers: &'n mut Numbers,
+    parts: Vec<Part>,
     open: Vec<bool>,
 }
 
-impl<'t> Reading<'t> {
-    fn add(&mut self, text: &'t str, sort: Sort) -> Result<(), AllocError> {
+impl Reading<'_> {
+    fn add(&mut self, text: &str, sort: Sort) -> Result<(), AllocError> {
+        let word = self.numbers.word(text)?;
         self.parts.push(Part {
-            text,
+            word,
             sort,
             ty: 0,
             end: 0,
@@ -88,7 +83,7 @@ impl<'t> Reading<'t> {
     }
 
     /// Adds a word, if it is one, with the mark behind it.
-    fn add_word(&mut self, word: &'t str, mark: &str) -> Result<(), AllocError> {
+    fn add_word(&mut self, word: &str, mark: &str) -> Result<(), AllocError> {
         if word.is_empty() {
             return Ok(());
         }
@@ -97,7 +92,7 @@ impl<'t> Reading<'t> {
     }
 
     /// Adds a mark, if it is one, behind a word.
-    fn add_mark(&mut self, word: &str, mark: &'t str) -> Result<(), AllocError> {
+    fn add_mark(&mut self, word: &str, mark: &str) -> Result<(), AllocError> {
         match sort_of(mark) {
             None => return Ok(()),
             Some(Sort::Open) => self.open.push(mark == "{" && has_labels(word))?,
@@ -131,8 +126,9 @@ fn is_mark(c: char) -> bool {
 }
 
 /// The parts of a text, in order.
-fn read<'t>(alloc: Global, text: &'t str) -> Result<Vec<Part<'t>>, AllocError> {
+fn read(alloc: Global, numbers: &mut Numbers, text: &str) -> Result<Vec<Part>, AllocError> {
     let mut reading = Reading {
+        numbers,
         parts: Vec::new(alloc),
         open: Vec::new(alloc),
     };
@@ -160,13 +156,13 @@ struct Numbering {
 
 impl Numbering {
     /// Numbers a part at a place.
-    fn add<'t>(
+    fn add(
         &mut self,
-        numbers: &mut Numbers<'t>,
+        numbers: &mut Numbers,
         place: usize,
-        part: &mut Part<'t>,
+        part: &mut Part,
     ) -> Result<(), AllocError> {
-        let word = numbers.word(part.text)?;
+        let word = part.word;
         match part.sort {
             Sort::Close => {
                 self.outer.push((self.rest, place.saturating_add(1)))?;
@@ -192,12 +188,12 @@ impl Numbering {
 
 /// The parts of a text in order, each type with its number. It costs time linear in the text, with
 /// a search for each part.
-pub(crate) fn parts_of<'t>(
+pub(crate) fn parts_of(
     alloc: Global,
-    numbers: &mut Numbers<'t>,
-    text: &'t str,
-) -> Result<Vec<Part<'t>>, AllocError> {
-    let mut parts = read(alloc, text)?;
+    numbers: &mut Numbers,
+    text: &str,
+) -> Result<Vec<Part>, AllocError> {
+    let mut parts = read(alloc, numbers, text)?;
     let mut numbering = Numbering {
         rest: 0,
         outer: Vec::new(alloc),

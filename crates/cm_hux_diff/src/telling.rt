@@ -34,8 +34,8 @@ struct Telling<'a> {
 /// one has; of the new one's imports in order, then imports that only the old one has, and those of
 /// the old one's that the new one exports.
 ///
-/// Items that differ by others of their instance alone are told by these. An export that nobody can
-/// link to is left out.
+/// Items that differ by others of their instance alone stand with these (`used_by`). An export that
+/// nobody can link to is left out.
 ///
 /// Refused only where there is no memory.
 pub fn differences<'a>(

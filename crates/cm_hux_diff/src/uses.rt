@@ -26,9 +26,9 @@ enum Sort {
 
 /// The parts of such texts, and the number of the item among those that differ.
 #[derive(Drop)]
-struct Parts<'t> {
-    was: Vec<Part<'t>>,
-    is: Vec<Part<'t>>,
+struct Parts {
+    was: Vec<Part>,
+    is: Vec<Part>,
     place: usize,
     sort: Sort,
 }
@@ -66,7 +66,7 @@ fn as_named(text: &str) -> &str {
 }
 
 /// The parts of all items that are changed, in order.
-fn all_parts<'t>(alloc: Global, found: &'t [Difference<'_>]) -> Result<Vec<Parts<'t>>, AllocError> {
+fn all_parts(alloc: Global, found: &[Difference<'_>]) -> Result<Vec<Parts>, AllocError> {
     let mut numbers = Numbers::new(alloc);
     let mut all = Vec::new(alloc);
     for (place, difference) in found.iter().enumerate() {
@@ -89,7 +89,7 @@ fn all_parts<'t>(alloc: Global, found: &'t [Difference<'_>]) -> Result<Vec<Parts
 type Both = (u64, u64);
 
 /// The types and resources that are changed, by their numbers; of two that are alike the first.
-fn changed_of(alloc: Global, all: &[Parts<'_>]) -> Result<BTreeMap<Both, usize>, AllocError> {
+fn changed_of(alloc: Global, all: &[Parts]) -> Result<BTreeMap<Both, usize>, AllocError> {
     let mut changed = BTreeMap::new(alloc);
     for parts in all {
         let (Some(was), Some(is)) = (parts.was.first(), parts.is.first()) else {
@@ -122,7 +122,7 @@ enum Step {
     Uses(usize, Walk),
 }
 
-impl Parts<'_> {
+impl Parts {
     /// What stands at two places.
     fn step(&self, walk: Walk, changed: &BTreeMap<Both, usize>) -> Step {
         let (was, is) = match (self.was.get(walk.was), self.is.get(walk.is)) {
@@ -138,7 +138,7 @@ impl Parts<'_> {
                 };
                 Step::Uses(*used, behind)
             }
-            _ if was.text == is.text => Step::Same,
+            _ if was.word == is.word => Step::Same,
             _ => Step::Differs,
         }
     }
@@ -202,10 +202,7 @@ impl Causes {
 
 /// The items that are changed, each behind those that it uses: these are shorter, or alike and
 /// before it.
-fn in_order(
-    alloc: Global,
-    all: &[Parts<'_>],
-) -> Result<BTreeMap<(usize, usize), usize>, AllocError> {
+fn in_order(alloc: Global, all: &[Parts]) -> Result<BTreeMap<(usize, usize), usize>, AllocError> {
     let mut order = BTreeMap::new(alloc);
     for (number, parts) in all.iter().enumerate() {
         order.insert((parts.was.len(), parts.place), number)?;

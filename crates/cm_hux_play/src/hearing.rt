@@ -1,4 +1,4 @@
-//! What standard error is told of a set that is played line by line.
+//! The lines on standard error of a set that is played line by line.
 
 use crate::telling::look_before;
 use cm_hux_drive::files::Stop;

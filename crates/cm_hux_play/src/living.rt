@@ -18,7 +18,7 @@ use std::io;
 use std::io::{BufReader, Read, Write};
 
 /// Links the components of files, prints what an engine needs to instantiate their core modules,
-/// and plays them line by line. Standard error is told of traps, unless only what is wrong is
+/// and plays them line by line. Standard error has lines of traps, unless only what is wrong is
 /// wanted, and of calls and their values, where the words want it.
 ///
 /// Objects are not printed, and no file is standard input, which has the lines: such words are
@@ -155,7 +155,7 @@ impl<'l, 'b, 'a> Live<'l, 'b, 'a> {
     }
 }
 
-/// These names, unless nothing is told.
+/// These names, unless no line of standard error wants them.
 fn told(is_quiet: bool, names: &[String]) -> Option<&[String]> {
     if is_quiet { None } else { Some(names) }
 }

@@ -83,10 +83,10 @@ fn messages_of(alloc: Global, word: Option<&str>) -> Result<u64, Fault<'static>>
 }
 
 /// The script of a file, for what is linked.
-fn script_of<'a, 'l, 'b, F: Files>(
+fn script_of<'a, F: Files>(
     alloc: Global,
     name: &'a str,
-    linked: &'l Linked<'b>,
+    linked: &Linked<'_>,
     files: &mut F,
 ) -> Result<HuxScript, Fault<'a>> {
     let names = Names::of(alloc, linked.components())?;

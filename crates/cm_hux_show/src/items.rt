@@ -61,7 +61,7 @@ impl<'a> Writer<'a> {
     /// Notes the names of an instance's items, before any of them is written.
     pub(crate) fn note_items(
         &mut self,
-        scope: &mut Scope<'a>,
+        scope: &mut Scope,
         items: Items<'a>,
     ) -> Result<(), ShowFault> {
         for place in 0..items.len() {
@@ -74,17 +74,19 @@ impl<'a> Writer<'a> {
 
     fn note_item(
         &mut self,
-        scope: &mut Scope<'a>,
+        scope: &mut Scope,
         item: NamedItem<'a>,
         brought: Option<Move>,
         place: usize,
     ) -> Result<(), ShowFault> {
         if let Some((resource, _)) = member_of(item.name) {
+            let resource = self.book.label(resource)?;
             scope.add_member(self.alloc, resource, place)?;
         }
         let ExternNameForm::Label(label) = item.name else {
             return Ok(());
         };
+        let label = self.book.label(label)?;
         scope.taken.insert(label)?;
         match meaning_of(item.desc, brought) {
             Meaning::Func(_) => Ok(()),
@@ -100,8 +102,8 @@ impl<'a> Writer<'a> {
     /// declared elsewhere.
     fn note_resource(
         &mut self,
-        scope: &mut Scope<'a>,
-        label: &'a str,
+        scope: &mut Scope,
+        label: usize,
         number: u64,
     ) -> Result<(), ShowFault> {
         let key = Key::Resource(number);
@@ -114,7 +116,7 @@ impl<'a> Writer<'a> {
     /// Adds the lines of the items of an instance, whose names were noted.
     pub(crate) fn write_items(
         &mut self,
-        scope: &mut Scope<'a>,
+        scope: &mut Scope,
         items: Items<'a>,
     ) -> Result<(), ShowFault> {
         for place in 0..items.len() {
@@ -127,16 +129,18 @@ impl<'a> Writer<'a> {
 
     fn write_item(
         &mut self,
-        scope: &mut Scope<'a>,
+        scope: &mut Scope,
         items: Items<'a>,
         item: NamedItem<'a>,
     ) -> Result<(), ShowFault> {
         match (meaning_of(item.desc, items.by()), item.name) {
             (Meaning::Func(used), name) => self.write_func_item(scope, name, used),
             (Meaning::Type(used), ExternNameForm::Label(label)) => {
+                let label = self.book.label(label)?;
                 self.write_type_item(scope, label, used)
             }
             (Meaning::Resource(number), ExternNameForm::Label(label)) => {
+                let label = self.book.label(label)?;
                 self.write_resource_item(scope, items, label, number)
             }
             _ => Ok(()),
@@ -146,11 +150,12 @@ impl<'a> Writer<'a> {
     /// Adds a function that is no member of a resource of the instance: these stand with it.
     fn write_func_item(
         &mut self,
-        scope: &mut Scope<'a>,
+        scope: &mut Scope,
         name: ExternNameForm<'a>,
         used: Used,
     ) -> Result<(), ShowFault> {
         if let Some((resource, _)) = member_of(name) {
+            let resource = self.book.label(resource)?;
             if scope.open.contains(&resource) {
                 return Ok(());
             }
@@ -167,8 +172,8 @@ impl<'a> Writer<'a> {
     /// elsewhere.
     fn write_type_item(
         &mut self,
-        scope: &mut Scope<'a>,
-        label: &'a str,
+        scope: &mut Scope,
+        label: usize,
         used: Used,
     ) -> Result<(), ShowFault> {
         let Some(node) = self.node(used.place) else {
@@ -198,7 +203,7 @@ impl<'a> Writer<'a> {
 
     /// Whether what has this label in a scope has another name in it, or was declared elsewhere; it
     /// is said so then.
-    fn is_there(&mut self, scope: &Scope<'a>, key: Key, label: &'a str) -> Result<bool, ShowFault> {
+    fn is_there(&mut self, scope: &Scope, key: Key, label: usize) -> Result<bool, ShowFault> {
         match scope.name(key) {
             Some(Name::Given(first)) if first != label => {
                 self.write_other_name(scope, Name::Given(label), Name::Given(first))?;
@@ -221,9 +226,9 @@ impl<'a> Writer<'a> {
     /// Adds a resource under one of its names, with its members.
     fn write_resource_item(
         &mut self,
-        scope: &mut Scope<'a>,
+        scope: &mut Scope,
         items: Items<'a>,
-        label: &'a str,
+        label: usize,
         number: u64,
     ) -> Result<(), ShowFault> {
         let key = Key::Resource(number);
@@ -249,7 +254,7 @@ impl<'a> Writer<'a> {
 
     fn prepare_members(
         &mut self,
-        scope: &mut Scope<'a>,
+        scope: &mut Scope,
         items: Items<'a>,
         places: &[usize],
     ) -> Result<(), ShowFault> {
@@ -265,7 +270,7 @@ impl<'a> Writer<'a> {
 
     fn write_members(
         &mut self,
-        scope: &Scope<'a>,
+        scope: &Scope,
         items: Items<'a>,
         places: &[usize],
     ) -> Result<(), ShowFault> {
@@ -284,7 +289,7 @@ impl<'a> Writer<'a> {
 
     fn write_member(
         &mut self,
-        scope: &Scope<'a>,
+        scope: &Scope,
         member: Member<'a>,
         used: Used,
     ) -> Result<(), ShowFault> {
@@ -309,11 +314,7 @@ impl<'a> Writer<'a> {
     }
 
     /// Gives the types in a function names in a scope.
-    pub(crate) fn prepare_func(
-        &mut self,
-        scope: &mut Scope<'a>,
-        used: Used,
-    ) -> Result<(), ShowFault> {
+    pub(crate) fn prepare_func(&mut self, scope: &mut Scope, used: Used) -> Result<(), ShowFault> {
         let types = self.types;
         if used.place >= types.func_count() {
             return Ok(());
@@ -330,7 +331,7 @@ impl<'a> Writer<'a> {
     /// Adds the type of a function, but for so many of its parameters.
     pub(crate) fn write_func(
         &mut self,
-        scope: &Scope<'a>,
+        scope: &Scope,
         used: Used,
         without: usize,
     ) -> Result<(), ShowFault> {
@@ -349,12 +350,7 @@ impl<'a> Writer<'a> {
         }
     }
 
-    fn write_params(
-        &mut self,
-        scope: &Scope<'a>,
-        used: Used,
-        without: usize,
-    ) -> Result<(), ShowFault> {
+    fn write_params(&mut self, scope: &Scope, used: Used, without: usize) -> Result<(), ShowFault> {
         self.book.put("(")?;
         let types = self.types;
         if used.place < types.func_count() {

@@ -6,6 +6,7 @@
 
 mod items;
 mod keys;
+mod labels;
 mod scope;
 mod shapes;
 mod types;

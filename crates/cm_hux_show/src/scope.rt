@@ -1,49 +1,46 @@
 //! The names that an instance, or the world, gives to types and resources.
 
 use crate::keys::{Key, TypeKeys};
-use cm_types::ExternNameForm;
 use std::alloc::{AllocError, Global};
 use std::collections::{BTreeMap, BTreeSet};
 
-/// A name: one of the file, or one that is made, by its number.
-#[derive(Clone, Copy)]
-pub(crate) enum Name<'a> {
-    Given(&'a str),
+/// A name: one of the file, by the number of its text (`Labels`), or one that is made, by its own
+/// number.
+#[derive(Clone, Copy, PartialEq, Eq)]
+pub(crate) enum Name {
+    Given(usize),
     Made(usize),
 }
 
 /// What a type or a resource was declared as: in the instance of a name, if in one, and under which
 /// name there.
 #[derive(Clone, Copy)]
-pub(crate) struct Home<'a> {
-    pub instance: Option<ExternNameForm<'a>>,
-    pub name: Name<'a>,
+pub(crate) struct Home {
+    /// The number of the text of the instance's name.
+    pub instance: Option<usize>,
+    pub name: Name,
 }
 
-/// The names of an instance, or of the world, so far.
+/// The names of an instance, or of the world, so far: labels are numbers of their texts.
 #[derive(Drop)]
-pub(crate) struct Scope<'a> {
+pub(crate) struct Scope {
     /// The name of the instance.
-    pub instance: Option<ExternNameForm<'a>>,
+    pub instance: Option<usize>,
     /// What stands before each of its lines.
     pub margin: &'static str,
     /// What has a name in it, each by its first one.
-    pub names: BTreeMap<Key, Name<'a>>,
+    pub names: BTreeMap<Key, Name>,
     /// The labels that are taken.
-    pub taken: BTreeSet<&'a str>,
+    pub taken: BTreeSet<usize>,
     /// The places of the methods, static functions and constructors of resources, by their names.
-    pub members: BTreeMap<&'a str, Vec<usize>>,
+    pub members: BTreeMap<usize, Vec<usize>>,
     /// The resources whose members are written with them.
-    pub open: BTreeSet<&'a str>,
+    pub open: BTreeSet<usize>,
 }
 
-impl<'a> Scope<'a> {
+impl Scope {
     /// No names.
-    pub(crate) fn new(
-        alloc: Global,
-        instance: Option<ExternNameForm<'a>>,
-        margin: &'static str,
-    ) -> Scope<'a> {
+    pub(crate) fn new(alloc: Global, instance: Option<usize>, margin: &'static str) -> Scope {
         Scope {
             instance,
             margin,
@@ -55,12 +52,12 @@ impl<'a> Scope<'a> {
     }
 
     /// The name of a type or a resource, if it has one.
-    pub(crate) fn name(&self, key: Key) -> Option<Name<'a>> {
+    pub(crate) fn name(&self, key: Key) -> Option<Name> {
         self.names.get(&key).copied()
     }
 
     /// The name of a type, or else of a type that is equal to it, if one has one.
-    pub(crate) fn type_name(&self, keys: TypeKeys) -> Option<Name<'a>> {
+    pub(crate) fn type_name(&self, keys: TypeKeys) -> Option<Name> {
         match self.name(keys.own) {
             Some(name) => Some(name),
             None => self.name(keys.equal),
@@ -68,13 +65,13 @@ impl<'a> Scope<'a> {
     }
 
     /// A type has this name, if it has none before.
-    pub(crate) fn give_type(&mut self, keys: TypeKeys, name: Name<'a>) -> Result<(), AllocError> {
+    pub(crate) fn give_type(&mut self, keys: TypeKeys, name: Name) -> Result<(), AllocError> {
         self.give(keys.own, name)?;
         self.give(keys.equal, name)
     }
 
     /// A type or a resource has this name, if it has none before.
-    pub(crate) fn give(&mut self, key: Key, name: Name<'a>) -> Result<(), AllocError> {
+    pub(crate) fn give(&mut self, key: Key, name: Name) -> Result<(), AllocError> {
         if self.name(key).is_none() {
             self.names.insert(key, name)?;
         }
@@ -85,7 +82,7 @@ impl<'a> Scope<'a> {
     pub(crate) fn add_member(
         &mut self,
         alloc: Global,
-        resource: &'a str,
+        resource: usize,
         place: usize,
     ) -> Result<(), AllocError> {
         match self.members.get_mut(&resource) {

@@ -69,10 +69,10 @@ impl<'a> Writer<'a> {
     /// The name of a type in a scope, if it has one; a number, a text and the like have none.
     fn name_in(
         &mut self,
-        scope: &Scope<'a>,
+        scope: &Scope,
         node: &TypeNode,
         used: Used,
-    ) -> Result<Option<Name<'a>>, ShowFault> {
+    ) -> Result<Option<Name>, ShowFault> {
         if primitive_word(node).is_some() {
             return Ok(None);
         }
@@ -83,11 +83,7 @@ impl<'a> Writer<'a> {
     /// Gives a type that is to be used in a scope a name there, if it has to have one, and what it
     /// holds too; answers of how many nodes it is written then.
     #[cycle(prepare)]
-    pub(crate) fn prepare(
-        &mut self,
-        scope: &mut Scope<'a>,
-        used: Used,
-    ) -> Result<usize, ShowFault> {
+    pub(crate) fn prepare(&mut self, scope: &mut Scope, used: Used) -> Result<usize, ShowFault> {
         let Some(node) = self.node(used.place) else {
             return Ok(1);
         };
@@ -107,7 +103,7 @@ impl<'a> Writer<'a> {
     #[cycle(prepare)]
     pub(crate) fn prepare_parts(
         &mut self,
-        scope: &mut Scope<'a>,
+        scope: &mut Scope,
         used: Used,
     ) -> Result<usize, ShowFault> {
         let mut nodes: usize = 1;
@@ -124,7 +120,7 @@ impl<'a> Writer<'a> {
     /// resource, which then has a name.
     fn is_known(
         &mut self,
-        scope: &mut Scope<'a>,
+        scope: &mut Scope,
         node: &TypeNode,
         used: Used,
     ) -> Result<bool, ShowFault> {
@@ -145,7 +141,7 @@ impl<'a> Writer<'a> {
     /// WIT only writes where it is declared.
     fn bring_type(
         &mut self,
-        scope: &mut Scope<'a>,
+        scope: &mut Scope,
         node: &TypeNode,
         keys: TypeKeys,
     ) -> Result<bool, ShowFault> {
@@ -158,7 +154,7 @@ impl<'a> Writer<'a> {
     /// Gives the resource of a handle a name in a scope.
     pub(crate) fn prepare_handle(
         &mut self,
-        scope: &mut Scope<'a>,
+        scope: &mut Scope,
         used: Used,
     ) -> Result<(), ShowFault> {
         match self.node(used.place) {
@@ -170,7 +166,7 @@ impl<'a> Writer<'a> {
     }
 
     /// Gives a resource that is to be used in a scope a name there.
-    fn prepare_resource(&mut self, scope: &mut Scope<'a>, number: u64) -> Result<(), ShowFault> {
+    fn prepare_resource(&mut self, scope: &mut Scope, number: u64) -> Result<(), ShowFault> {
         let key = Key::Resource(number);
         if scope.name(key).is_some() || self.bring(scope, key)? {
             return Ok(());
@@ -184,7 +180,7 @@ impl<'a> Writer<'a> {
 
     /// Adds a type where it is used: its name, or itself where it has none.
     #[cycle(write)]
-    pub(crate) fn write_used(&mut self, scope: &Scope<'a>, used: Used) -> Result<(), ShowFault> {
+    pub(crate) fn write_used(&mut self, scope: &Scope, used: Used) -> Result<(), ShowFault> {
         match self.node(used.place) {
             None => Ok(()),
             Some(node) => match self.name_in(scope, node, used)? {
@@ -198,7 +194,7 @@ impl<'a> Writer<'a> {
     #[cycle(write)]
     fn write_spelled(
         &mut self,
-        scope: &Scope<'a>,
+        scope: &Scope,
         node: &TypeNode,
         used: Used,
     ) -> Result<(), ShowFault> {
@@ -218,12 +214,7 @@ impl<'a> Writer<'a> {
 
     /// Adds a type that holds others.
     #[cycle(write)]
-    fn write_parts(
-        &mut self,
-        scope: &Scope<'a>,
-        node: &TypeNode,
-        used: Used,
-    ) -> Result<(), ShowFault> {
+    fn write_parts(&mut self, scope: &Scope, node: &TypeNode, used: Used) -> Result<(), ShowFault> {
         let parts = self.parts(used.place);
         for (index, part) in parts.iter().enumerate() {
             if *part < used.place {
@@ -245,7 +236,7 @@ impl<'a> Writer<'a> {
     }
 
     /// Adds the name of a resource.
-    fn write_resource(&mut self, scope: &Scope<'a>, number: u64) -> Result<(), ShowFault> {
+    fn write_resource(&mut self, scope: &Scope, number: u64) -> Result<(), ShowFault> {
         match scope.name(Key::Resource(number)) {
             Some(name) => self.book.put_name(name),
             None => self.book.put_number(number as usize),
@@ -255,8 +246,8 @@ impl<'a> Writer<'a> {
     /// Declares a type under a name, where what it holds has names.
     pub(crate) fn declare(
         &mut self,
-        scope: &mut Scope<'a>,
-        name: Name<'a>,
+        scope: &mut Scope,
+        name: Name,
         used: Used,
     ) -> Result<(), ShowFault> {
         let Some(node) = self.node(used.place) else {
@@ -284,23 +275,13 @@ impl<'a> Writer<'a> {
         self.settle_type(scope, keys, name)
     }
 
-    fn begin_line(
-        &mut self,
-        scope: &Scope<'a>,
-        word: &str,
-        name: Name<'a>,
-    ) -> Result<(), ShowFault> {
+    fn begin_line(&mut self, scope: &Scope, word: &str, name: Name) -> Result<(), ShowFault> {
         self.book.put(scope.margin)?;
         self.book.put(word)?;
         self.book.put_name(name)
     }
 
-    fn begin_block(
-        &mut self,
-        scope: &Scope<'a>,
-        word: &str,
-        name: Name<'a>,
-    ) -> Result<(), ShowFault> {
+    fn begin_block(&mut self, scope: &Scope, word: &str, name: Name) -> Result<(), ShowFault> {
         self.begin_line(scope, word, name)?;
         self.book.put(" { ")
     }
@@ -308,9 +289,9 @@ impl<'a> Writer<'a> {
     /// Declares a type that WIT writes where it is used.
     fn write_alias(
         &mut self,
-        scope: &Scope<'a>,
+        scope: &Scope,
         node: &TypeNode,
-        name: Name<'a>,
+        name: Name,
         used: Used,
     ) -> Result<(), ShowFault> {
         self.begin_line(scope, "type ", name)?;
@@ -322,9 +303,9 @@ impl<'a> Writer<'a> {
     /// Declares that a name is another one's in the same scope.
     pub(crate) fn write_other_name(
         &mut self,
-        scope: &Scope<'a>,
-        name: Name<'a>,
-        first: Name<'a>,
+        scope: &Scope,
+        name: Name,
+        first: Name,
     ) -> Result<(), ShowFault> {
         self.begin_line(scope, "type ", name)?;
         self.book.put(" = ")?;
@@ -334,7 +315,7 @@ impl<'a> Writer<'a> {
 
     fn write_fields(
         &mut self,
-        scope: &Scope<'a>,
+        scope: &Scope,
         fields: &[Field],
         used: Used,
     ) -> Result<(), ShowFault> {
@@ -349,7 +330,7 @@ impl<'a> Writer<'a> {
     /// Adds a label with its type.
     pub(crate) fn write_field(
         &mut self,
-        scope: &Scope<'a>,
+        scope: &Scope,
         field: &Field,
         used: Used,
     ) -> Result<(), ShowFault> {
@@ -358,12 +339,7 @@ impl<'a> Writer<'a> {
         self.write_used(scope, used)
     }
 
-    fn write_cases(
-        &mut self,
-        scope: &Scope<'a>,
-        cases: &[Case],
-        used: Used,
-    ) -> Result<(), ShowFault> {
+    fn write_cases(&mut self, scope: &Scope, cases: &[Case], used: Used) -> Result<(), ShowFault> {
         let mut payloads = self.parts(used.place).iter();
         for (index, case) in cases.iter().enumerate() {
             self.book.separate(index)?;
@@ -377,7 +353,7 @@ impl<'a> Writer<'a> {
         Ok(())
     }
 
-    fn write_payload(&mut self, scope: &Scope<'a>, used: Used) -> Result<(), ShowFault> {
+    fn write_payload(&mut self, scope: &Scope, used: Used) -> Result<(), ShowFault> {
         self.book.put("(")?;
         self.write_used(scope, used)?;
         self.book.put(")")
@@ -385,9 +361,9 @@ impl<'a> Writer<'a> {
 
     fn write_labels(
         &mut self,
-        scope: &Scope<'a>,
+        scope: &Scope,
         word: &str,
-        name: Name<'a>,
+        name: Name,
         labels: &[Label],
     ) -> Result<(), ShowFault> {
         self.begin_block(scope, word, name)?;

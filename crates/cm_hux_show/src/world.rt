@@ -10,7 +10,7 @@ use crate::writer::Writer;
 use cm_tool_show::{Counting, ShowFault};
 use cm_types::ExternNameForm;
 use cm_types_arena::{Desc, Externs, Items, NamedDesc, Signature};
-use std::alloc::Global;
+use std::alloc::{AllocError, Global};
 
 /// The text of a signature as WIT writes it (WIT.md, "Worlds"): each import and then each export,
 /// in order, as it stands in a world. The items of an instance stand in it: each type and resource
@@ -34,11 +34,37 @@ pub fn show_world(alloc: Global, signature: &Signature) -> Result<String, ShowFa
     writer.book.finish()
 }
 
+/// The text of the name of an instance.
+fn form_text(alloc: Global, form: ExternNameForm<'_>) -> Result<String, AllocError> {
+    let mut text = String::new(alloc);
+    match form {
+        ExternNameForm::Interface {
+            namespace,
+            package,
+            interface,
+            version,
+        } => {
+            for piece in [namespace, ":", package, "/", interface] {
+                text.push_str(piece)?;
+            }
+            if let Some(version) = version {
+                text.push_str("@")?;
+                text.push_str(version)?;
+            }
+        }
+        ExternNameForm::Label(label) => text.push_str(label)?,
+        ExternNameForm::Method { .. }
+        | ExternNameForm::Static { .. }
+        | ExternNameForm::Constructor { .. } => {}
+    }
+    Ok(text)
+}
+
 impl<'a> Writer<'a> {
     /// Adds the lines of all imports and exports.
     fn write_world(
         &mut self,
-        world: &mut Scope<'a>,
+        world: &mut Scope,
         signature: &'a Signature,
     ) -> Result<(), ShowFault> {
         self.note_labels(world, signature.imports())?;
@@ -48,11 +74,7 @@ impl<'a> Writer<'a> {
     }
 
     /// Notes the labels that imports or exports take in the world.
-    fn note_labels(
-        &mut self,
-        world: &mut Scope<'a>,
-        externs: &'a Externs,
-    ) -> Result<(), ShowFault> {
+    fn note_labels(&mut self, world: &mut Scope, externs: &'a Externs) -> Result<(), ShowFault> {
         for place in 0..externs.len() {
             if let Some(
                 NamedDesc {
@@ -61,6 +83,7 @@ impl<'a> Writer<'a> {
                 },
             ) = externs.at(place)
             {
+                let label = self.book.label(label)?;
                 world.taken.insert(label)?;
             }
         }
@@ -70,7 +93,7 @@ impl<'a> Writer<'a> {
     /// Adds the lines of imports, or of exports.
     fn write_externs(
         &mut self,
-        world: &mut Scope<'a>,
+        world: &mut Scope,
         word: &str,
         externs: &'a Externs,
     ) -> Result<(), ShowFault> {
@@ -84,7 +107,7 @@ impl<'a> Writer<'a> {
 
     fn write_extern(
         &mut self,
-        world: &mut Scope<'a>,
+        world: &mut Scope,
         word: &str,
         each: NamedDesc<'a>,
     ) -> Result<(), ShowFault> {
@@ -100,7 +123,9 @@ impl<'a> Writer<'a> {
                 self.book.put(";\n")
             }
             Desc::Instance(items) => {
-                let mut scope = Scope::new(self.alloc, Some(each.name), "  ");
+                let name = form_text(self.alloc, each.name)?;
+                let name = self.book.label(name.as_str())?;
+                let mut scope = Scope::new(self.alloc, Some(name), "  ");
                 self.write_instance(&mut scope, word, each.name, items)
             }
         }
@@ -109,7 +134,7 @@ impl<'a> Writer<'a> {
     /// Adds an instance, in a scope of its own.
     fn write_instance(
         &mut self,
-        scope: &mut Scope<'a>,
+        scope: &mut Scope,
         word: &str,
         name: ExternNameForm<'a>,
         items: Items<'a>,

@@ -5,6 +5,7 @@ ghost use Rattle.std.specs.String.{string_bytes};
 ghost use Rattle.cm_tool_show.specs.declared.page.TheConstants.{MAX_SHOWN};
 
 use crate::keys::{Key, TypeKeys, Used, last_resources};
+use crate::labels::Labels;
 use crate::scope::{Home, Name, Scope};
 use crate::shapes::shape_of;
 use cm_names::TextNumbers;
@@ -21,19 +22,28 @@ pub(crate) struct Writer<'a> {
     pub alloc: Global,
     pub types: &'a Types,
     pub book: Book,
-    homes: BTreeMap<Key, Home<'a>>,
+    homes: BTreeMap<Key, Home>,
 }
 
 /// The text so far, and the numbers that types and names have in it.
 #[derive(Drop)]
 pub(crate) struct Book {
     page: Page,
+    labels: Labels,
     lasts: Vec<Option<u64>>,
     /// The numbers of types that were met, and the texts by which they are equal.
     numbers: BTreeMap<Key, usize>,
     shapes: TextNumbers,
     /// How many names were made.
     made: usize,
+}
+
+/// Adds a label to a text, which a `%` begins where it is a keyword (WIT.md, "Identifiers").
+fn put_label(page: &mut Page, label: &str) -> Result<(), ShowFault> {
+    if Keyword::of_word(label.as_bytes()).is_some() {
+        page.put("%")?;
+    }
+    page.put(label)
 }
 
 impl Book {
@@ -54,10 +64,20 @@ impl Book {
         self.page.put_number(number)
     }
 
+    /// The number of a text.
+    pub(crate) fn label(&mut self, text: &str) -> Result<usize, ShowFault> {
+        Ok(self.labels.number(text)?)
+    }
+
+    /// Adds the text of a number, as a label.
+    pub(crate) fn put_label_of(&mut self, number: usize) -> Result<(), ShowFault> {
+        put_label(&mut self.page, self.labels.text(number))
+    }
+
     /// Adds a name.
-    pub(crate) fn put_name(&mut self, name: Name<'_>) -> Result<(), ShowFault> {
+    pub(crate) fn put_name(&mut self, name: Name) -> Result<(), ShowFault> {
         match name {
-            Name::Given(label) => self.put_label(label),
+            Name::Given(label) => self.put_label_of(label),
             Name::Made(number) => {
                 self.put("#")?;
                 self.put_number(number)
@@ -65,12 +85,9 @@ impl Book {
         }
     }
 
-    /// Adds a label, which a `%` begins where it is a keyword (WIT.md, "Identifiers").
+    /// Adds a label.
     pub(crate) fn put_label(&mut self, label: &str) -> Result<(), ShowFault> {
-        if Keyword::of_word(label.as_bytes()).is_some() {
-            self.put("%")?;
-        }
-        self.put(label)
+        put_label(&mut self.page, label)
     }
 
     /// Adds what the name of an import, an export or an item says.
@@ -124,6 +141,7 @@ impl<'a> Writer<'a> {
         let lasts = last_resources(alloc, types)?;
         let book = Book {
             page: Page::new(alloc),
+            labels: Labels::new(alloc),
             lasts,
             numbers: BTreeMap::new(alloc),
             shapes: TextNumbers::new(alloc),
@@ -194,7 +212,7 @@ impl<'a> Writer<'a> {
     }
 
     /// A name that no file can have.
-    pub(crate) fn make_name(&mut self) -> Name<'a> {
+    pub(crate) fn make_name(&mut self) -> Name {
         let number = self.book.made;
         self.book.made = number.saturating_add(1);
         Name::Made(number)
@@ -203,9 +221,9 @@ impl<'a> Writer<'a> {
     /// A type that is declared under a name in a scope has it there, and its home if it has none.
     pub(crate) fn settle_type(
         &mut self,
-        scope: &mut Scope<'a>,
+        scope: &mut Scope,
         keys: TypeKeys,
-        name: Name<'a>,
+        name: Name,
     ) -> Result<(), ShowFault> {
         self.settle(scope, keys.own, name)?;
         self.settle(scope, keys.equal, name)
@@ -214,9 +232,9 @@ impl<'a> Writer<'a> {
     /// What is declared under a name in a scope has it there; it has its home there if it has none.
     pub(crate) fn settle(
         &mut self,
-        scope: &mut Scope<'a>,
+        scope: &mut Scope,
         key: Key,
-        name: Name<'a>,
+        name: Name,
     ) -> Result<(), ShowFault> {
         scope.give(key, name)?;
         if !self.homes.contains_key(&key) {
@@ -227,12 +245,12 @@ impl<'a> Writer<'a> {
     }
 
     /// Where something was declared before, if it was.
-    pub(crate) fn home(&self, key: Key) -> Option<Home<'a>> {
+    pub(crate) fn home(&self, key: Key) -> Option<Home> {
         self.homes.get(&key).copied()
     }
 
     /// Brings what was declared elsewhere, if it was, and says so.
-    pub(crate) fn bring(&mut self, scope: &mut Scope<'a>, key: Key) -> Result<bool, ShowFault> {
+    pub(crate) fn bring(&mut self, scope: &mut Scope, key: Key) -> Result<bool, ShowFault> {
         let Some(home) = self.home(key) else {
             return Ok(false);
         };
@@ -246,7 +264,7 @@ impl<'a> Writer<'a> {
 
     /// The name that something has in a scope which was declared elsewhere: its own, where that is
     /// not taken.
-    fn local_name(&mut self, scope: &mut Scope<'a>, home: Home<'a>) -> Result<Name<'a>, ShowFault> {
+    fn local_name(&mut self, scope: &mut Scope, home: Home) -> Result<Name, ShowFault> {
         match home.name {
             Name::Given(label) if !scope.taken.insert(label)? => Ok(self.make_name()),
             name => Ok(name),
@@ -257,27 +275,18 @@ impl<'a> Writer<'a> {
     pub(crate) fn write_bringing(
         &mut self,
         margin: &'static str,
-        instance: ExternNameForm<'a>,
-        there: Name<'a>,
-        here: Name<'a>,
+        instance: usize,
+        there: Name,
+        here: Name,
     ) -> Result<(), ShowFault> {
         self.book.put_all(&[margin, "use "])?;
-        self.book.put_form(instance)?;
+        self.book.put_label_of(instance)?;
         self.book.put(".{")?;
         self.book.put_name(there)?;
-        if !is_same(there, here) {
+        if there != here {
             self.book.put(" as ")?;
             self.book.put_name(here)?;
         }
         self.book.put("};\n")
-    }
-}
-
-/// Whether two names are the same.
-fn is_same(a: Name<'_>, b: Name<'_>) -> bool {
-    match (a, b) {
-        (Name::Given(a), Name::Given(b)) => a == b,
-        (Name::Made(a), Name::Made(b)) => a == b,
-        _ => false,
     }
 }

@@ -1,7 +1,7 @@
 -- What layout each form of the code makes.
 use Rattle.std.proofs.Common.{◌≡◌, ℕ, Bool, suc, ◌+◌, ◌<◌, ◌++◌, List, [], ◌∷◌, length, map, max, Option, Some, None, Vec, Global, rules, refl, sym, ap, ◌∙◌, arith, append_assoc, append-nil}
 use Rattle.std.proofs.lemmas.List.{map-append, length-map}
-use Rattle.std.specs.declared.rc.Rc.{Rc}
+use Rattle.std.specs.declared.sync.Arc.{Arc}
 use Rattle.std.specs.Option.{option_map}
 use Rattle.cm_types.specs.Types.{Ty, Fields, Cases, CasesKind, cases, field, no_cases, plain, carrying}
 use Rattle.cm_types.specs.TypeTrees.{case_before, plain_from}
@@ -28,16 +28,16 @@ use Rattle.cm_layout.proofs.OffsetLaws.{discriminant_place}
 
 -- ---- what is seen of each form
 
-pub seen_form_List : (b : Rc Layout Global) → shape_of (view.List b) ≡ list_shape (layout_of b.value).head (layout_of b.value).shape
+pub seen_form_List : (b : Arc Layout Global) → shape_of (view.List b) ≡ list_shape (layout_of b.value).head (layout_of b.value).shape
 seen_form_List b = search (rules, the_lemmas)
 
-pub seen_form_FixedList : (b : Rc Layout Global) (n : ℕ) → shape_of (view.FixedList b n) ≡ fixed_list_shape (layout_of b.value).head (layout_of b.value).shape n
+pub seen_form_FixedList : (b : Arc Layout Global) (n : ℕ) → shape_of (view.FixedList b n) ≡ fixed_list_shape (layout_of b.value).head (layout_of b.value).shape n
 seen_form_FixedList b n = search (rules, the_lemmas)
 
-pub seen_form_Fields : (v : Rc (Vec Part Global) Global) → shape_of (view.Fields v) ≡ fields_shape (parts_from (map part_of v.value.items))
+pub seen_form_Fields : (v : Arc (Vec Part Global) Global) → shape_of (view.Fields v) ≡ fields_shape (parts_from (map part_of v.value.items))
 seen_form_Fields v = search (rules, the_lemmas)
 
-pub seen_form_Cases : (d o : ℕ) (v : Rc (Vec Payload Global) Global) → shape_of (view.Cases d o v) ≡ cases_shape d o (payloads_from (map payload_of v.value.items))
+pub seen_form_Cases : (d o : ℕ) (v : Arc (Vec Payload Global) Global) → shape_of (view.Cases d o v) ≡ cases_shape d o (payloads_from (map payload_of v.value.items))
 seen_form_Cases d o v = search (rules, the_lemmas)
 
 pub seen_form_Enum : (d n : ℕ) → shape_of (form.Enum d n) ≡ cases_shape d d (nothings n)

@@ -16,7 +16,7 @@ use crate::heads::discriminant_size;
 use crate::layouts::{Form, Layout, Part, Payload};
 use cm_types::MAX_NODES;
 use std::alloc::{AllocError, Global};
-use std::rc::Rc;
+use std::sync::Arc;
 
 /// Lays out the fields of a record or a tuple, in order.
 #[derive(Drop)]
@@ -67,7 +67,7 @@ impl FieldsBuilder {
     {
         Ok(Layout {
             head: self.so_far.whole(),
-            form: Form::Fields(Rc::new(alloc, self.parts)?),
+            form: Form::Fields(Arc::new(alloc, self.parts)?),
         })
     }
 }
@@ -122,7 +122,7 @@ impl CasesBuilder {
             form: Form::Cases {
                 discriminant,
                 offset: self.so_far.offset(discriminant),
-                payloads: Rc::new(alloc, self.payloads)?,
+                payloads: Arc::new(alloc, self.payloads)?,
             },
         })
     }

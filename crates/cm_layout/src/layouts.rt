@@ -2,7 +2,7 @@
 
 use crate::heads::Head;
 use cm_types::ResourceId;
-use std::rc::Rc;
+use std::sync::Arc;
 
 /// A type that holds no other one and is passed as one core value, handles aside.
 #[derive(Clone, Copy)]
@@ -42,14 +42,14 @@ pub enum Form {
     Leaf(Leaf),
     String,
     /// A list, whose elements lie elsewhere, one behind the other: the layout of one.
-    List(Rc<Layout>),
+    List(Arc<Layout>),
     /// So many elements, which lie in place, one behind the other.
     FixedList {
-        element: Rc<Layout>,
+        element: Arc<Layout>,
         length: u32,
     },
     /// The fields of a record or a tuple, in order.
-    Fields(Rc<Vec<Part>>),
+    Fields(Arc<Vec<Part>>),
     /// The cases of a variant, an option or a result.
     Cases {
         /// The size in bytes of the number of a case.
@@ -57,7 +57,7 @@ pub enum Form {
         /// Where the payload stands, in bytes from where the whole does.
         offset: u32,
         /// What each case carries, in order.
-        payloads: Rc<Vec<Payload>>,
+        payloads: Arc<Vec<Payload>>,
     },
     /// The cases of an enum, which carry nothing.
     Enum {

@@ -11,7 +11,7 @@ use crate::heads::{Head, discriminant_size, flags_size};
 use crate::layouts::{Form, HandleType, Layout, Leaf};
 use cm_types::MAX_NODES;
 use std::alloc::{AllocError, Global};
-use std::rc::Rc;
+use std::sync::Arc;
 
 impl Layout {
     ghost use Rattle.cm_layout.specs.Layouts.{layout_of};
@@ -79,7 +79,7 @@ impl Layout {
     {
         Ok(Layout {
             head: Head::pointer_and_length(),
-            form: Form::List(Rc::new(alloc, element)?),
+            form: Form::List(Arc::new(alloc, element)?),
         })
     }
 
@@ -92,7 +92,7 @@ impl Layout {
             → layout_of l ≡ layout_at (fixed_list t length)) }
     {
         let head = element.head.repeated(length);
-        let element = Rc::new(alloc, element)?;
+        let element = Arc::new(alloc, element)?;
         Ok(Layout {
             head,
             form: Form::FixedList { element, length },

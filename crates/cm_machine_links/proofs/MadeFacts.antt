@@ -3,7 +3,7 @@ use Rattle.std.proofs.Common.{◌≡◌, ◌∙◌, ◌+◌, ◌<◌, ℕ, List,
 use Rattle.std.specs.List.{AllByRecursion}
 use Rattle.std.specs.Option.{option_map}
 use Rattle.std.proofs.lemmas.Option.{slice_get_read}
-use Rattle.std.specs.declared.rc.Rc.{Rc}
+use Rattle.std.specs.declared.sync.Arc.{Arc}
 use Rattle.cm_types.specs.declared.resource.ResourceId.{ResourceId}
 use Rattle.cm_types.specs.Types.{FuncTy}
 use Rattle.cm_binary_model.specs.declared.canons.CanonOption.{CanonOption}
@@ -77,7 +77,7 @@ destructor_by cs r x is =
 pub component_at : (cs ds : List Checked) (i : ℕ) (x : Checked) → cs ≡ ds → i < length cs → x ≡ get_or cs i x → slice_get ds i ≡ Some x
 component_at cs ds i x same lt is = subst (λ (xs : List Checked). slice_get xs i ≡ Some x) same (slice_get_read cs (length cs) i x refl lt is)
 
-pub mapped_more : (rows : List (Vec (Rc CallTypes Global) Global)) (row : Vec (Rc CallTypes Global) Global) → map (λ v. v.items) (rows ++ row ∷ []) ≡ map (λ v. v.items) rows ++ row.items ∷ []
+pub mapped_more : (rows : List (Vec (Arc CallTypes Global) Global)) (row : Vec (Arc CallTypes Global) Global) → map (λ v. v.items) (rows ++ row ∷ []) ≡ map (λ v. v.items) rows ++ row.items ∷ []
 mapped_more [] row = refl
 mapped_more (r ∷ rows) row = ap (λ l. r.items ∷ l) (mapped_more rows row)
 
@@ -108,12 +108,12 @@ one_more_row set ss rows i s row at stands h =
     joined n (t ∷ ts) [] e k = absurd k
     joined n (t ∷ ts) (r ∷ rs) e k = (k.0, joined (n + 1) ts rs (omega (arith, e)) k.1)
 
-pub one_more_types : (set : List Spaces) (cs : List Checked) (rows : List (List (Rc CallTypes Global))) (i : ℕ) (x : Checked) (row : List (Rc CallTypes Global)) → slice_get cs i ≡ Some x
+pub one_more_types : (set : List Spaces) (cs : List Checked) (rows : List (List (Arc CallTypes Global))) (i : ℕ) (x : Checked) (row : List (Arc CallTypes Global)) → slice_get cs i ≡ Some x
     → AreCallTypes (standing set i) (funcs_in x) row → AreTypesOf set 0 (take i cs) rows → AreTypesOf set 0 (take (i + 1) cs) (rows ++ row ∷ [])
 one_more_types set cs rows i x row at types h =
     subst (λ (l : List Checked). AreTypesOf set 0 l (rows ++ row ∷ [])) (sym (take_one cs i x at)) (joined 0 (take i cs) rows (omega (arith, long_enough cs i x at)) h)
   where
-    joined : (n : ℕ) (ts : List Checked) (rs : List (List (Rc CallTypes Global))) → n + length ts ≡ i → AreTypesOf set n ts rs → AreTypesOf set n (ts ++ x ∷ []) (rs ++ row ∷ [])
+    joined : (n : ℕ) (ts : List Checked) (rs : List (List (Arc CallTypes Global))) → n + length ts ≡ i → AreTypesOf set n ts rs → AreTypesOf set n (ts ++ x ∷ []) (rs ++ row ∷ [])
     joined n [] [] e k = let same : i ≡ n = omega (arith, e) in (subst (λ m. AreCallTypes (standing set m) (funcs_in x) row) same types, tt)
     joined n [] (r ∷ rs) e k = absurd k
     joined n (t ∷ ts) [] e k = absurd k

@@ -4,7 +4,7 @@ use Rattle.std.specs.Prelude.{nat_lt, if◌then◌else◌}
 use Rattle.std.specs.List.{AllByRecursion}
 use Rattle.std.specs.Option.{option_map}
 use Rattle.std.specs.Prelude.{IfSome, Vec}
-use Rattle.std.specs.declared.rc.Rc.{Rc}
+use Rattle.std.specs.declared.sync.Arc.{Arc}
 use Rattle.std.proofs.lemmas.Bool.{ltb-false}
 use Rattle.std.proofs.lemmas.List.{take_all, take_more}
 use Rattle.cm_types.specs.declared.core_value.CoreKind.{CoreKind}
@@ -115,11 +115,11 @@ one_spelled_more at ps i lt here h = subst (λ l. AllByRecursion (λ t. is_spell
 
 -- ---- call types of an arena
 
-pub one_type_more : (s : Standing) (fs : List FuncTy) (i : ℕ) (d : FuncTy) (ts : List (Rc CallTypes Global)) (t : Rc CallTypes Global) → i < length fs
+pub one_type_more : (s : Standing) (fs : List FuncTy) (i : ℕ) (d : FuncTy) (ts : List (Arc CallTypes Global)) (t : Arc CallTypes Global) → i < length fs
     → IsCallTypes s (get_or fs i d) t.value → IsSpelled (get_or fs i d) → AreCallTypes s (take i fs) ts → AreCallTypes s (take (i + 1) fs) (ts ++ t ∷ [])
 one_type_more s fs i d ts t lt is spelled h = subst (λ l. AreCallTypes s l (ts ++ t ∷ [])) (sym (take_more fs i d lt)) (joined (take i fs) ts h)
   where
-    joined : (gs : List FuncTy) (us : List (Rc CallTypes Global)) → AreCallTypes s gs us → AreCallTypes s (gs ++ get_or fs i d ∷ []) (us ++ t ∷ [])
+    joined : (gs : List FuncTy) (us : List (Arc CallTypes Global)) → AreCallTypes s gs us → AreCallTypes s (gs ++ get_or fs i d ∷ []) (us ++ t ∷ [])
     joined [] [] k = (is, spelled, tt)
     joined [] (u ∷ us) k = absurd k
     joined (g ∷ gs) [] k = absurd k

@@ -4,7 +4,7 @@ use Rattle.std.specs.Prelude.{take}
 use Rattle.std.specs.List.{AllByRecursion}
 use Rattle.std.specs.Option.{option_map}
 use Rattle.std.specs.declared.alloc.Global.{Global}
-use Rattle.std.specs.declared.rc.Rc.{Rc}
+use Rattle.std.specs.declared.sync.Arc.{Arc}
 use Rattle.cm_types.specs.Spellable.{are_spellable, is_spellable_payload}
 use Rattle.cm_types.specs.Types.{Fields, FuncTy, Ty}
 use Rattle.cm_types.specs.declared.core_value.CoreKind.{CoreKind}
@@ -66,13 +66,13 @@ abbrev pub IsSpelled : FuncTy → Type 0
 IsSpelled f = (are_spellable f.params ≡ true) × (is_spellable_payload f.result ≡ true)
 
 -- those of an arena, each at its place
-abbrev pub AreCallTypes : Standing → List FuncTy → List (Rc CallTypes Global) → Type 0
+abbrev pub AreCallTypes : Standing → List FuncTy → List (Arc CallTypes Global) → Type 0
 AreCallTypes s [] [] = ⊤
 AreCallTypes s (f ∷ fs) (t ∷ ts) = IsCallTypes s f t.value × IsSpelled f × AreCallTypes s fs ts
 AreCallTypes s fs ts = ⊥
 
 -- those of components, numbered from here on
-abbrev pub AreTypesOf : List Spaces → ℕ → List Checked → List (List (Rc CallTypes Global)) → Type 0
+abbrev pub AreTypesOf : List Spaces → ℕ → List Checked → List (List (Arc CallTypes Global)) → Type 0
 AreTypesOf set c [] [] = ⊤
 AreTypesOf set c (x ∷ xs) (ts ∷ rows) =
     AreCallTypes (standing set c) (funcs_in x) ts × AreTypesOf set (c + 1) xs rows

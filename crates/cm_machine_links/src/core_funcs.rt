@@ -24,7 +24,7 @@ use cm_types::ResourceId;
 use cm_types_arena::laws::what_stays;
 use cm_types_arena::placed_laws::unmoved;
 use std::alloc::AllocError;
-use std::rc::Rc;
+use std::sync::Arc;
 
 /// What a core function of an instance stands for.
 #[derive(Drop)]
@@ -48,10 +48,10 @@ pub enum CoreFunc {
 /// What the function of a place in the arena of a component passes, shared.
 fn share_types(
     linked: &Linked<'_>,
-    types: &[Vec<Rc<CallTypes>>],
+    types: &[Vec<Arc<CallTypes>>],
     component: u32,
     place: usize,
-) -> Result<Rc<CallTypes>, AllocError>
+) -> Result<Arc<CallTypes>, AllocError>
     requires known { AreTypesOf (set_in linked.now) 0 (components_in linked.now)
         (map (λ v. v.items) types.now) }
     requires there { place < length (funcs_at (components_in linked.now) component) }
@@ -67,7 +67,7 @@ fn share_types(
 /// What an import that is lowered with these options, or an item of one, stands for.
 fn lowered_func(
     linked: &Linked<'_>,
-    types: &[Vec<Rc<CallTypes>>],
+    types: &[Vec<Arc<CallTypes>>],
     component: u32,
     import: usize,
     item: Option<usize>,
@@ -110,7 +110,7 @@ fn origin(linked: &Linked<'_>, component: u32, number: u64) -> ResourceId
 /// What a core function that a canonical definition of a component made stands for.
 fn made_func(
     linked: &Linked<'_>,
-    types: &[Vec<Rc<CallTypes>>],
+    types: &[Vec<Arc<CallTypes>>],
     component: u32,
     checked: &Checked<'_>,
     made: &MadeFunc<'_>,
@@ -147,7 +147,7 @@ fn made_func(
 /// What the core function of an index of a component stands for.
 pub(crate) fn core_func(
     linked: &Linked<'_>,
-    types: &[Vec<Rc<CallTypes>>],
+    types: &[Vec<Arc<CallTypes>>],
     component: u32,
     checked: &Checked<'_>,
     index: u32,

@@ -18,7 +18,7 @@ use crate::passing::call_types;
 use cm_machine_parts::CallTypes;
 use cm_match::{Checked, Linked};
 use std::alloc::{AllocError, Global};
-use std::rc::Rc;
+use std::sync::Arc;
 
 /// How many core functions a component has: fewer than its file has bytes.
 fn core_func_count(checked: &Checked<'_>) -> u32
@@ -30,7 +30,7 @@ fn core_func_count(checked: &Checked<'_>) -> u32
 }
 
 /// What the function types of each component pass, by place.
-fn types_of(alloc: Global, linked: &Linked<'_>) -> Result<Vec<Vec<Rc<CallTypes>>>, AllocError>
+fn types_of(alloc: Global, linked: &Linked<'_>) -> Result<Vec<Vec<Arc<CallTypes>>>, AllocError>
     ensures { IfOk result (λ ts. AreTypesOf (set_in linked.now) 0 (components_in linked.now)
         (map (λ v. v.items) ts.items)) }
 {
@@ -50,7 +50,7 @@ fn types_of(alloc: Global, linked: &Linked<'_>) -> Result<Vec<Vec<Rc<CallTypes>>
 fn core_funcs(
     alloc: Global,
     linked: &Linked<'_>,
-    types: &[Vec<Rc<CallTypes>>],
+    types: &[Vec<Arc<CallTypes>>],
     component: u32,
     checked: &Checked<'_>,
 ) -> Result<Vec<CoreFunc>, AllocError>
@@ -74,7 +74,7 @@ fn core_funcs(
 fn rows_of(
     alloc: Global,
     linked: &Linked<'_>,
-    types: &[Vec<Rc<CallTypes>>],
+    types: &[Vec<Arc<CallTypes>>],
 ) -> Result<Vec<Vec<CoreFunc>>, AllocError>
     requires known { AreTypesOf (set_in linked.now) 0 (components_in linked.now)
         (map (λ v. v.items) types.now) }

@@ -33,7 +33,7 @@ use cm_types_arena::type_laws::types_are_lawful;
 use cm_types_arena::{Replacement, Types};
 use cm_validate_canons::laws::passing_stays;
 use std::alloc::{AllocError, Global};
-use std::rc::Rc;
+use std::sync::Arc;
 
 /// Whether what has this layout goes by memory, where at most so many core values pass it flat.
 fn is_spilled(layout: &Layout, most: usize) -> bool
@@ -270,7 +270,7 @@ pub(crate) fn call_types<R: Replacement>(
     alloc: Global,
     types: &Types,
     by: &R,
-) -> Result<Vec<Rc<CallTypes>>, AllocError>
+) -> Result<Vec<Arc<CallTypes>>, AllocError>
     ensures { IfOk result (λ ts.
         AreCallTypes (R.replacement by.now) (funcs_of types.now) ts.items) }
 {
@@ -280,7 +280,7 @@ pub(crate) fn call_types<R: Replacement>(
     let mut all = Vec::with_capacity(alloc, types.func_count())?;
     for func in 0..types.func_count() {
         let one = call_types_at(alloc, types, &layouts, &programs, &kinds, func)?;
-        all.push(Rc::new(alloc, one)?)?;
+        all.push(Arc::new(alloc, one)?)?;
     }
     Ok(all)
 }

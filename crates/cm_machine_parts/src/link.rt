@@ -5,7 +5,7 @@ use cm_abi_programs::{CallPuts, Check};
 use cm_abi_slots::SlotStep;
 use cm_layout::Layout;
 use cm_types::CoreKind;
-use std::rc::Rc;
+use std::sync::Arc;
 
 /// The types of values that are passed one way, with each resource what it is in the end.
 #[derive(Drop)]
@@ -58,5 +58,5 @@ pub struct Link {
     /// How the one that is called does.
     pub callee: LiftLowerOptions,
     /// What is passed: the same on both sides.
-    pub types: Rc<CallTypes>,
+    pub types: Arc<CallTypes>,
 }

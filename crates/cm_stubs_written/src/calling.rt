@@ -55,9 +55,8 @@ struct ImportedFunc {
 
 /// A caller while it is written.
 #[derive(Drop)]
-struct Caller<'a> {
+struct Caller {
     alloc: Global,
-    types: &'a Types,
     writer: Writer,
     modules: HostModules,
 }
@@ -93,7 +92,7 @@ fn resources_of(
     Ok(resources)
 }
 
-impl<'a> Caller<'a> {
+impl Caller {
     /// What brings resources among the other's imports may be imported.
     fn add_brought(&mut self, imports: &[NamedDesc<'_>]) -> Result<(), DraftFault> {
         for import in imports {
@@ -145,18 +144,18 @@ impl<'a> Caller<'a> {
     }
 
     /// Declares the value types of an instance.
-    fn declare_values(&mut self, items: Items<'_>) -> Result<(), DraftFault> {
+    fn declare_values(&mut self, types: &Types, items: Items<'_>) -> Result<(), DraftFault> {
         for number in 0..items.len() {
             let Some(item) = items.at(number) else {
                 continue;
             };
             if let ItemDesc::EqualType(placed) = item.desc {
                 let key = TypeKey::new(EXPORTED, placed, items.by());
-                let equal = self.writer.type_index(self.types, key)?;
+                let equal = self.writer.type_index(types, key)?;
                 let name = name_of(self.alloc, item.name)?;
                 let bound = TypeBound::Equal(equal);
                 let index = self.writer.draft.declare_type(name, bound)?;
-                self.writer.rename(self.types, key, index)?;
+                self.writer.rename(types, key, index)?;
             }
         }
         Ok(())
@@ -165,6 +164,7 @@ impl<'a> Caller<'a> {
     /// Declares the functions of an instance, and puts them behind its items.
     fn declare_funcs(
         &mut self,
+        types: &Types,
         listed: Items<'_>,
         items: &mut Vec<ImportedItem>,
     ) -> Result<(), DraftFault> {
@@ -174,7 +174,7 @@ impl<'a> Caller<'a> {
             };
             if let ItemDesc::Func(placed) = item.desc {
                 let key = TypeKey::new(EXPORTED, placed, listed.by());
-                let ty = self.writer.func_index(self.types, key)?;
+                let ty = self.writer.func_index(types, key)?;
                 let name = name_of(self.alloc, item.name)?;
                 self.writer.draft.declare_func(name.clone()?, ty)?;
                 let is = ImportedIs::Func(key);
@@ -197,13 +197,14 @@ impl<'a> Caller<'a> {
     /// Imports an instance: resources first, then value types, then functions.
     fn import_instance(
         &mut self,
+        types: &Types,
         name: ExternName,
         listed: Items<'_>,
     ) -> Result<ImportedInstance, DraftFault> {
         self.writer.begin_instance();
         let mut items = self.declare_resources(listed)?;
-        self.declare_values(listed)?;
-        self.declare_funcs(listed, &mut items)?;
+        self.declare_values(types, listed)?;
+        self.declare_funcs(types, listed, &mut items)?;
         let ty = self.writer.end_instance()?;
         let index = self.writer.draft.import_instance(name.clone()?, ty)?;
         self.settle(index, &items)?;
@@ -213,26 +214,26 @@ impl<'a> Caller<'a> {
     /// Imports what are instances among these.
     fn import_instances(
         &mut self,
-        exports: &[NamedDesc<'_>],
+        exports: &Asked<'_>,
     ) -> Result<Vec<ImportedInstance>, DraftFault> {
         let mut instances = Vec::new(self.alloc);
-        for export in exports {
+        for export in &exports.externs {
             if let Desc::Instance(items) = export.desc {
                 self.writer.draft.spend(bytes_of(export.name))?;
                 let name = name_of(self.alloc, export.name)?;
-                instances.push(self.import_instance(name, items)?)?;
+                instances.push(self.import_instance(exports.types, name, items)?)?;
             }
         }
         Ok(instances)
     }
 
     /// Imports what are functions among these.
-    fn import_funcs(&mut self, exports: &[NamedDesc<'_>]) -> Result<Vec<ImportedFunc>, DraftFault> {
+    fn import_funcs(&mut self, exports: &Asked<'_>) -> Result<Vec<ImportedFunc>, DraftFault> {
         let mut funcs = Vec::new(self.alloc);
-        for export in exports {
+        for export in &exports.externs {
             if let Desc::Func(placed) = export.desc {
                 let key = TypeKey::new(EXPORTED, placed, None);
-                let ty = self.writer.func_index(self.types, key)?;
+                let ty = self.writer.func_index(exports.types, key)?;
                 let name = name_of(self.alloc, export.name)?;
                 let index = self.writer.draft.import_func(name.clone()?, ty)?;
                 funcs.push(ImportedFunc { name, key, index })?;
@@ -242,8 +243,14 @@ impl<'a> Caller<'a> {
     }
 
     /// Lowers a function of this type for the module `host`, under this name.
-    fn lower(&mut self, name: &str, key: TypeKey, func: u32) -> Result<(), DraftFault> {
-        if key.place >= self.types.func_count() {
+    fn lower(
+        &mut self,
+        types: &Types,
+        name: &str,
+        key: TypeKey,
+        func: u32,
+    ) -> Result<(), DraftFault> {
+        if key.place >= types.func_count() {
             return Err(DraftFault::NoResource);
         }
         let options = self.modules.options()?;
@@ -251,7 +258,7 @@ impl<'a> Caller<'a> {
             .writer
             .draft
             .canon_core(Canon::Lower { func, options })?;
-        let flat = flatten_func(self.alloc, self.types.func(key.place), Side::Lower)?;
+        let flat = flatten_func(self.alloc, types.func(key.place), Side::Lower)?;
         let name = String::from_str(self.alloc, name)?;
         let ty = CoreType::of_flat(flat);
         self.modules.import(&mut self.writer.draft, name, index, ty)
@@ -281,13 +288,17 @@ impl<'a> Caller<'a> {
     }
 
     /// Lowers the functions of an instance, and lets handles of its resources be dropped.
-    fn lower_items(&mut self, instance: &ImportedInstance) -> Result<(), DraftFault> {
+    fn lower_items(
+        &mut self,
+        types: &Types,
+        instance: &ImportedInstance,
+    ) -> Result<(), DraftFault> {
         let module = String::from_str(self.alloc, instance.name.as_str())?;
         self.modules.begin_imports(&mut self.writer.draft, module)?;
         for item in &instance.items {
             let name = item.name.as_str();
             match item.is {
-                ImportedIs::Func(key) => self.lower(name, key, item.index)?,
+                ImportedIs::Func(key) => self.lower(types, name, key, item.index)?,
                 ImportedIs::Resource(_) => self.add_drop(name, item.index)?,
             }
         }
@@ -295,14 +306,14 @@ impl<'a> Caller<'a> {
     }
 
     /// Lowers the functions that are of no instance.
-    fn lower_funcs(&mut self, funcs: &[ImportedFunc]) -> Result<(), DraftFault> {
+    fn lower_funcs(&mut self, types: &Types, funcs: &[ImportedFunc]) -> Result<(), DraftFault> {
         if funcs.is_empty() {
             return Ok(());
         }
         let module = String::from_str(self.alloc, ROOT)?;
         self.modules.begin_imports(&mut self.writer.draft, module)?;
         for func in funcs {
-            self.lower(func.name.as_str(), func.key, func.index)?;
+            self.lower(types, func.name.as_str(), func.key, func.index)?;
         }
         Ok(())
     }
@@ -325,7 +336,7 @@ impl<'a> Caller<'a> {
     }
 
     /// Writes all that is imported.
-    fn write(&mut self, exports: &[NamedDesc<'_>]) -> Result<(), DraftFault> {
+    fn write(&mut self, exports: &Asked<'_>) -> Result<(), DraftFault> {
         let mut instances = self.import_instances(exports)?;
         let funcs = self.import_funcs(exports)?;
         for instance in &mut instances {
@@ -333,9 +344,9 @@ impl<'a> Caller<'a> {
         }
         self.modules.open(&mut self.writer.draft)?;
         for instance in &instances {
-            self.lower_items(instance)?;
+            self.lower_items(exports.types, instance)?;
         }
-        self.lower_funcs(&funcs)?;
+        self.lower_funcs(exports.types, &funcs)?;
         self.drop_brought()?;
         self.modules.instantiate(&mut self.writer.draft)?;
         Ok(())
@@ -351,12 +362,11 @@ pub fn caller_written(
 ) -> Result<Component, DraftFault> {
     let mut caller = Caller {
         alloc,
-        types: exports.types,
         writer: Writer::new(alloc),
         modules: HostModules::new(alloc)?,
     };
     caller.add_brought(&imports.externs)?;
-    caller.write(&exports.externs)?;
+    caller.write(exports)?;
     let Caller {
         writer,
         modules,

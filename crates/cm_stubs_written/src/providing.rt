@@ -18,9 +18,8 @@ use std::mem;
 
 /// A provider while it is written.
 #[derive(Drop)]
-struct Provider<'a> {
+struct Provider {
     alloc: Global,
-    asked: &'a [Asked<'a>],
     writer: Writer,
     modules: HostModules,
     /// The indices of the resource types, by the numbers of the resources.
@@ -49,7 +48,15 @@ fn has_contents(types: &Types, func: usize) -> bool
     }
 }
 
-impl<'a> Provider<'a> {
+/// The arena of a list of what is asked, if there is such a list.
+fn types_of<'a>(asked: &[Asked<'a>], of: usize) -> Result<&'a Types, DraftFault> {
+    match asked.get(of) {
+        Some(asked) => Ok(asked.types),
+        None => Err(DraftFault::NoResource),
+    }
+}
+
+impl Provider {
     /// Defines the resource of an item with its destructor, and the core functions that make, drop
     /// and read handles of it.
     fn add_resource(&mut self, export: &str, item: &str, root: usize) -> Result<(), DraftFault> {
@@ -130,18 +137,16 @@ impl<'a> Provider<'a> {
         Ok(options)
     }
 
-    /// The arena of a list of what is asked, if there is such a list.
-    fn types(&self, of: usize) -> Result<&'a Types, DraftFault> {
-        match self.asked.get(of) {
-            Some(asked) => Ok(asked.types),
-            None => Err(DraftFault::NoResource),
-        }
-    }
-
     /// The index of the function of this type that is lifted from what the module `host` exports
     /// under this name, once all is lifted.
-    fn prepare_func(&mut self, host: u32, name: String, key: TypeKey) -> Result<u32, DraftFault> {
-        let types = self.types(key.of)?;
+    fn prepare_func(
+        &mut self,
+        asked: &[Asked<'_>],
+        host: u32,
+        name: String,
+        key: TypeKey,
+    ) -> Result<u32, DraftFault> {
+        let types = types_of(asked, key.of)?;
         if key.place >= types.func_count() {
             return Err(DraftFault::NoResource);
         }
@@ -168,6 +173,7 @@ impl<'a> Provider<'a> {
     /// The index of a function of an instance, under this name.
     fn prepare_item_func(
         &mut self,
+        asked: &[Asked<'_>],
         host: u32,
         export: &str,
         name: &str,
@@ -176,18 +182,23 @@ impl<'a> Provider<'a> {
         let alloc = self.alloc;
         self.writer.draft.spend(export.len())?;
         let core = format!(in alloc; "{export}#{name}")?;
-        self.prepare_func(host, core, key)
+        self.prepare_func(asked, host, core, key)
     }
 
     /// The index of the type that an item of an instance is, or of its function's type.
-    fn item_type(&mut self, wanted: &Wanted, item: &WantedItem) -> Result<u32, DraftFault> {
+    fn item_type(
+        &mut self,
+        asked: &[Asked<'_>],
+        wanted: &Wanted,
+        item: &WantedItem,
+    ) -> Result<u32, DraftFault> {
         match item.is {
             ItemIs::Func(key) => {
-                let types = self.types(key.of)?;
+                let types = types_of(asked, key.of)?;
                 self.writer.func_index(types, key)
             }
             ItemIs::Value(key) => {
-                let types = self.types(key.of)?;
+                let types = types_of(asked, key.of)?;
                 self.writer.type_index(types, key)
             }
             ItemIs::Resource(number) => match self.resources.get(&wanted.resources.root(number)) {
@@ -198,15 +209,20 @@ impl<'a> Provider<'a> {
     }
 
     /// Writes the types of what is exported.
-    fn write_types(&mut self, wanted: &Wanted, export: &WantedExport) -> Result<(), DraftFault> {
+    fn write_types(
+        &mut self,
+        asked: &[Asked<'_>],
+        wanted: &Wanted,
+        export: &WantedExport,
+    ) -> Result<(), DraftFault> {
         match &export.is {
             WantedIs::Func(key) => {
-                let types = self.types(key.of)?;
+                let types = types_of(asked, key.of)?;
                 self.writer.func_index(types, *key)?;
             }
             WantedIs::Instance(items) => {
                 for item in items {
-                    self.item_type(wanted, item)?;
+                    self.item_type(asked, wanted, item)?;
                 }
             }
         }
@@ -216,6 +232,7 @@ impl<'a> Provider<'a> {
     /// The items of an instance that are types.
     fn prepare_types(
         &mut self,
+        asked: &[Asked<'_>],
         wanted: &Wanted,
         items: &[WantedItem],
     ) -> Result<Vec<InlineExport>, DraftFault> {
@@ -224,7 +241,7 @@ impl<'a> Provider<'a> {
             if matches!(item.is, ItemIs::Func(_)) {
                 continue;
             }
-            let index = self.item_type(wanted, item)?;
+            let index = self.item_type(asked, wanted, item)?;
             let name = item.name.clone()?;
             let sort = InstanceExportSort::Type;
             exports.push(InlineExport { name, sort, index })?;
@@ -235,6 +252,7 @@ impl<'a> Provider<'a> {
     /// Puts the functions of an instance behind its types, which they use.
     fn prepare_funcs(
         &mut self,
+        asked: &[Asked<'_>],
         host: u32,
         export: &str,
         items: &[WantedItem],
@@ -244,7 +262,7 @@ impl<'a> Provider<'a> {
             let ItemIs::Func(key) = item.is else {
                 continue;
             };
-            let index = self.prepare_item_func(host, export, item.name.as_str(), key)?;
+            let index = self.prepare_item_func(asked, host, export, item.name.as_str(), key)?;
             let name = item.name.clone()?;
             let sort = InstanceExportSort::Func;
             exports.push(InlineExport { name, sort, index })?;
@@ -255,6 +273,7 @@ impl<'a> Provider<'a> {
     /// What is exported under a name, once all is lifted.
     fn prepare(
         &mut self,
+        asked: &[Asked<'_>],
         wanted: &Wanted,
         host: u32,
         export: &WantedExport,
@@ -263,18 +282,18 @@ impl<'a> Provider<'a> {
         match &export.is {
             WantedIs::Func(key) => {
                 let core = String::from_str(self.alloc, name)?;
-                Ok(Prepared::Func(self.prepare_func(host, core, *key)?))
+                Ok(Prepared::Func(self.prepare_func(asked, host, core, *key)?))
             }
             WantedIs::Instance(items) => {
-                let mut exports = self.prepare_types(wanted, items)?;
-                self.prepare_funcs(host, name, items, &mut exports)?;
+                let mut exports = self.prepare_types(asked, wanted, items)?;
+                self.prepare_funcs(asked, host, name, items, &mut exports)?;
                 Ok(Prepared::Instance(exports))
             }
         }
     }
 
     /// Defines the resources, instantiates the core modules, and writes the types.
-    fn open(&mut self, wanted: &Wanted) -> Result<u32, DraftFault> {
+    fn open(&mut self, asked: &[Asked<'_>], wanted: &Wanted) -> Result<u32, DraftFault> {
         self.modules.open(&mut self.writer.draft)?;
         for export in &wanted.exports {
             self.add_resources(wanted, export)?;
@@ -282,7 +301,7 @@ impl<'a> Provider<'a> {
         self.settle_resources(wanted)?;
         let host = self.modules.instantiate(&mut self.writer.draft)?;
         for export in &wanted.exports {
-            self.write_types(wanted, export)?;
+            self.write_types(asked, wanted, export)?;
         }
         Ok(host)
     }
@@ -296,11 +315,11 @@ impl<'a> Provider<'a> {
     }
 
     /// Writes all that is exported.
-    fn write(&mut self, wanted: &Wanted) -> Result<(), DraftFault> {
-        let host = self.open(wanted)?;
+    fn write(&mut self, asked: &[Asked<'_>], wanted: &Wanted) -> Result<(), DraftFault> {
+        let host = self.open(asked, wanted)?;
         let mut prepared = Vec::new(self.alloc);
         for export in &wanted.exports {
-            prepared.push(self.prepare(wanted, host, export)?)?;
+            prepared.push(self.prepare(asked, wanted, host, export)?)?;
         }
         self.lift()?;
         let mut exported = Vec::new(self.alloc);
@@ -331,13 +350,12 @@ pub fn provider_written(
     let wanted = Wanted::of(alloc, &mut writer.draft, asked, exported)?;
     let mut provider = Provider {
         alloc,
-        asked,
         writer,
         modules: HostModules::new(alloc)?,
         resources: BTreeMap::new(alloc),
         lifts: Vec::new(alloc),
     };
-    provider.write(&wanted)?;
+    provider.write(asked, &wanted)?;
     let Provider {
         writer,
         modules,

@@ -126,6 +126,38 @@ enum HuxSort {
     HUX_SORT_BORROW = 11
 };
 
+/* What a part of a plan is: a definition that an engine makes, or a word of one. */
+enum HuxPlanKind {
+    /* A core module, whose bytes stand in the texts. */
+    HUX_PLAN_KIND_MODULE = 1,
+    /* A core instance of core module `index`, which is given the next `count` parts. */
+    HUX_PLAN_KIND_INSTANCE = 2,
+    /* Core instance `index`, under a name that the core module imports from. */
+    HUX_PLAN_KIND_GIVEN = 3,
+    /* A core instance of the next `count` parts. */
+    HUX_PLAN_KIND_INLINE = 4,
+    /* Core definition `index` of a sort, under a name. */
+    HUX_PLAN_KIND_ITEM = 5,
+    /* What core instance `index` exports under a name: one more core definition of the sort. */
+    HUX_PLAN_KIND_ALIAS = 6,
+    /* One more core function: a call of function `index`, which leaves the guest; the next
+     * `count` parts are its options. */
+    HUX_PLAN_KIND_LOWER = 7,
+    /* One more core function: makes a handle of resource type `index`. */
+    HUX_PLAN_KIND_NEW = 8,
+    /* One more core function: drops one. */
+    HUX_PLAN_KIND_DROP = 9,
+    /* One more core function: tells the representation of one. */
+    HUX_PLAN_KIND_REPRESENT = 10,
+    /* Core function `index` is the body of one more function; the next `count` parts are its
+     * options. */
+    HUX_PLAN_KIND_LIFT = 11,
+    /* An option of a lower or a lift, by its code, which is the sort: 0 UTF-8, 1 UTF-16, 2
+     * Latin-1 or UTF-16, 3 the core memory `index`, 4 the core function `index` that allocates,
+     * 5 the one that is called when a result was read (Binary.md, `canonopt`). */
+    HUX_PLAN_KIND_SETTING = 12
+};
+
 /* What is wrong with a call of a set, by its kind, beside those of `HuxKind`. */
 enum HuxSetKind {
     /* The handle keeps no set. */
@@ -252,6 +284,31 @@ typedef struct HuxFile {
     HuxSpan bytes;
 } HuxFile;
 
+/* A part of a plan, in the order of the component's definitions. Each core definition has the
+ * next index of its sort, from 0. */
+typedef struct HuxPlanPart {
+    /* How many bytes it has in the texts, behind those of the parts before: a core module's, or
+     * a name. */
+    size_t length;
+    /* How many of the next parts are words of it. */
+    size_t count;
+    /* What it is: a `HuxPlanKind`. */
+    uint32_t kind;
+    /* Of what it is made. */
+    uint32_t index;
+    /* Of an item or an alias 0 a core function, 1 a table, 2 a memory, 3 a global; of an option
+     * its code; else 0. */
+    uint32_t sort;
+} HuxPlanPart;
+
+/* How long a plan is. */
+typedef struct HuxPlan {
+    /* How many parts it has. */
+    size_t parts;
+    /* How many bytes its texts have. */
+    size_t bytes;
+} HuxPlan;
+
 /* A core value (CanonicalABI.md, "Flattening"). */
 typedef struct HuxCore {
     /* The number, without a sign of its own: one of 32 bits in the low half, above which is 0 in
@@ -309,6 +366,8 @@ typedef struct HuxSetState {
 typedef struct HuxInstance {
     /* How many bytes its memory has. */
     size_t bytes;
+    /* How many indices its table has, 0 among them: no handle stands at another. */
+    size_t indices;
     /* 1 where a trap has closed it, else 0. */
     uint32_t closed;
 } HuxInstance;
@@ -476,6 +535,23 @@ HuxVerdict hux_layout(
     size_t path_length,
     HuxNode *node);
 
+/* Tells what an engine needs to instantiate the core modules of a component: its definitions, in
+ * order, each a part, and behind an instance what it is given (Binary.md, "Core Instance
+ * Definitions", "Alias Definitions" and "Canonical Definitions").
+ *
+ * `component` are the bytes of a component file. Where the answer is HUX_KIND_FINE, `parts` and
+ * `texts` have as much as there is room for, and `seen` says how much there is: the texts are
+ * the bytes of core modules and names, those of each part behind those of the parts before. Else
+ * nothing is written. */
+HuxVerdict hux_plan(
+    const uint8_t *component,
+    size_t component_length,
+    HuxPlan *seen,
+    HuxPlanPart *parts,
+    size_t parts_length,
+    uint8_t *texts,
+    size_t texts_length);
+
 /* Runs a command of `hux` in process, over files that are handed over, as `hux_tool` does one of
  * `component_tool`. The file of the name `-` is standard input.
  *
@@ -620,6 +696,14 @@ HuxVerdict hux_set_handle(
     uint32_t index,
     const HuxResource *resource,
     HuxHandle *seen);
+
+/* Tells the handle at an index of an instance's table, of whatever resource: all handles, where
+ * each of the indices that `hux_set_instance` tells of is asked for (CanonicalABI.md, "Table
+ * State").
+ *
+ * The answer is HUX_KIND_FINE; else HUX_SET_KIND_EMPTY, HUX_SET_KIND_NO_INSTANCE, or
+ * HUX_SET_KIND_NO_HANDLE, with the reason 1, where no handle stands there; and `seen` stays. */
+HuxVerdict hux_set_handle_at(HuxSet *set, uint32_t number, uint32_t index, HuxHandle *seen);
 
 /* Runs a command of `component_tool` in process, over files that are handed over: its words,
  * those behind the program's name, are parts of the bytes, and so are the names of the files and

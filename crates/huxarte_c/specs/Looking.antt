@@ -2,8 +2,9 @@
 use Rattle.std.specs.Prelude.{ℕ, ◌+◌, List, Option, Some, None, Result, Ok, Err, Bool, true, false}
 use Rattle.std.specs.Prelude.{drop, if◌then◌else◌, leb, length, min, slice_get, take}
 use Rattle.std.specs.Option.{option_map}
-use Rattle.cm_handles.specs.Handles.{Handles, look_up}
+use Rattle.cm_handles.specs.Handles.{Handles, handle_at, look_up}
 use Rattle.cm_handles.specs.declared.fault.HandleFault.{HandleFault}
+use Rattle.cm_handles.specs.declared.fault.HandleFault.TheVariants as handle_fault
 use Rattle.cm_handles.specs.declared.handle.Handle.{Handle}
 use Rattle.cm_handles.specs.declared.handle.HandleKind.{HandleKind}
 use Rattle.cm_handles.specs.declared.handle.HandleKind.TheVariants.{Borrowed, Owned}
@@ -58,15 +59,21 @@ abbrev pub flag : Bool → ℕ
 flag true = 1
 flag false = 0
 
--- an instance, where it has a memory: how many bytes, and whether it is closed
-abbrev pub instance_by : Bool → Option (List ℕ) → Result HuxInstance SetRefusal
-instance_by closed None = Err refusal.NoInstance
-instance_by closed (Some memory) =
-    Ok (record { bytes = length memory; closed = flag closed })
+-- how many indices a table has, if there is one
+abbrev pub indices_in : Option Handles → ℕ
+indices_in None = 0
+indices_in (Some handles) = length handles.slots
+
+-- an instance, where it has a memory: how many bytes, how many indices its table has, and whether
+-- it is closed
+abbrev pub instance_by : Bool → ℕ → Option (List ℕ) → Result HuxInstance SetRefusal
+instance_by closed indices None = Err refusal.NoInstance
+instance_by closed indices (Some memory) =
+    Ok (record { bytes = length memory; indices = indices; closed = flag closed })
 
 abbrev pub instance_in : ℕ → RunningSet → Result HuxInstance SetRefusal
-instance_in instance s =
-    instance_by (is_closed s.state instance) (slice_get s.state.memories instance)
+instance_in instance s = instance_by (is_closed s.state instance)
+    (indices_in (slice_get s.state.tables instance)) (slice_get s.state.memories instance)
 
 abbrev pub instance_seen : Option PlayedSet → ℕ → Result HuxInstance SetRefusal
 instance_seen kept instance = looked (instance_in instance) kept
@@ -126,3 +133,19 @@ abbrev pub handle_seen : Option PlayedSet → ℕ → ℕ → HuxResource
     → Result HuxHandle SetRefusal
 handle_seen kept instance index resource =
     looked (handle_in instance index (resource_of resource)) kept
+
+-- what stands at an index
+abbrev pub any_handle_by : Option Handle → Result HuxHandle SetRefusal
+any_handle_by None = Err (refusal.NoHandle handle_fault.NoHandle)
+any_handle_by (Some h) = Ok (handle_told h)
+
+-- the handle at an index of the table of an instance, of whatever resource
+abbrev pub any_handle_of : ℕ → Option Handles → Result HuxHandle SetRefusal
+any_handle_of index None = Err refusal.NoInstance
+any_handle_of index (Some handles) = any_handle_by (handle_at handles index)
+
+abbrev pub any_handle_in : ℕ → ℕ → RunningSet → Result HuxHandle SetRefusal
+any_handle_in instance index s = any_handle_of index (slice_get s.state.tables instance)
+
+abbrev pub any_handle_seen : Option PlayedSet → ℕ → ℕ → Result HuxHandle SetRefusal
+any_handle_seen kept instance index = looked (any_handle_in instance index) kept

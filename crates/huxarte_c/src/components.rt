@@ -4,11 +4,12 @@ ghost use Rattle.huxarte_c_components.specs.Fitting.{IsFitVerdict};
 ghost use Rattle.huxarte_c_components.specs.Linking.{IsLinkVerdict};
 ghost use Rattle.huxarte_c_components.specs.Showing.{IsShownVerdict};
 ghost use Rattle.huxarte_c_components.specs.Laying.{IsLayoutVerdict};
+ghost use Rattle.huxarte_c_components.specs.Plans.{IsPlanVerdict};
 ghost use Rattle.huxarte_c_components.specs.Sound.{IsFileVerdict};
 ghost use Rattle.huxarte_c_calls.specs.Texts.{IsText};
 
 use huxarte_c_calls::{HuxNode, HuxSpan, HuxVerdict};
-use huxarte_c_components::{check, conform, lay, link_files, show};
+use huxarte_c_components::{HuxPlan, HuxPlanPart, check, conform, lay, link_files, plan, show};
 use std::alloc::Global;
 
 /// Checks the bytes of a component file, which may have shims: whether they are a valid component
@@ -108,4 +109,26 @@ pub extern "C" fn hux_layout(
     ensures { IsLayoutVerdict component.now func way path.now result node.old node.new }
 {
     lay(alloc, component, func, way, path, node)
+}
+
+/// Tells what an engine needs to instantiate the core modules of a component: its definitions, in
+/// order, each a part, and behind an instance what it is given (Binary.md, "Core Instance
+/// Definitions", "Alias Definitions" and "Canonical Definitions").
+///
+/// `component` are the bytes of a component file. Where the answer is `Fine`, `parts` and `texts`
+/// have as much as there is room for, and `seen` says how much there is: the texts are the bytes of
+/// core modules and names, those of each part behind those of the parts before. Else nothing is
+/// written.
+#[unsafe(no_mangle)]
+pub extern "C" fn hux_plan(
+    alloc: Global,
+    component: &[u8],
+    seen: &mut HuxPlan,
+    parts: &mut [HuxPlanPart],
+    texts: &mut [u8],
+) -> HuxVerdict
+    ensures { IsPlanVerdict component.now result seen.old seen.new parts.old parts.new
+        texts.old texts.new }
+{
+    plan(alloc, component, seen, parts, texts)
 }

@@ -1,17 +1,18 @@
 //! What a set is seen to be.
 
 ghost use Rattle.std.specs.Prelude.{◌≡◌, length};
-ghost use Rattle.std.specs.Option.{option_copied};
+ghost use Rattle.std.specs.Option.{option_copied, option_map};
 ghost use Rattle.huxarte_c_calls.specs.Verdicts.{verdict_by};
-ghost use Rattle.huxarte_c.specs.Looking.{acting_number, flag, handle_in, handle_seen};
-ghost use Rattle.huxarte_c.specs.Looking.{handle_told, instance_in, instance_seen};
+ghost use Rattle.huxarte_c.specs.Looking.{acting_number, any_handle_in, any_handle_seen, flag};
+ghost use Rattle.huxarte_c.specs.Looking.{handle_in, handle_seen, handle_told, indices_in};
+ghost use Rattle.huxarte_c.specs.Looking.{instance_in, instance_seen};
 ghost use Rattle.huxarte_c.specs.Looking.{part_by, part_seen, resource_of};
 ghost use Rattle.huxarte_c.specs.Looking.{state_in, state_seen, told_or};
 ghost use Rattle.huxarte_c.specs.Refused.{of_set};
 
 use crate::hux_set::HuxSet;
 use crate::refusal::{SetRefusal, verdict};
-use cm_handles::{Handle, HandleKind};
+use cm_handles::{Handle, HandleFault, HandleKind, Table};
 use cm_machine_set::Set;
 use cm_types::ResourceId;
 use huxarte_c_calls::{HuxHandle, HuxVerdict};
@@ -38,6 +39,8 @@ pub struct HuxSetState {
 pub struct HuxInstance {
     /// How many bytes its memory has.
     pub bytes: usize,
+    /// How many indices its table has, 0 among them: no handle stands at another.
+    pub indices: usize,
     /// 1 where a trap has closed it, else 0.
     pub closed: u32,
 }
@@ -108,14 +111,26 @@ fn flag(is_so: bool) -> u32
     u32::from(is_so)
 }
 
+/// How many indices a table has, if there is one.
+fn indices_in(table: Option<&Table>) -> usize
+    ensures { result ≡ indices_in (option_map (λ t. t.now.handles) table.entry) }
+{
+    match table {
+        Some(table) => table.indices(),
+        None => 0,
+    }
+}
+
 /// An instance of a set.
 fn instance_in(set: &Set, instance: u32) -> Result<HuxInstance, SetRefusal>
     ensures { result ≡ instance_in instance set.now }
 {
     let closed = set.is_closed(instance).unwrap_or(false);
+    let indices = indices_in(set.table(instance));
     match set.memory(instance) {
         Some(memory) => Ok(HuxInstance {
             bytes: memory.len(),
+            indices,
             closed: flag(closed),
         }),
         None => Err(SetRefusal::NoInstance),
@@ -188,6 +203,37 @@ fn handle_in(
         },
         None => Err(SetRefusal::NoInstance),
     }
+}
+
+/// The handle at an index of the table of an instance, of whatever resource.
+fn any_handle_in(set: &Set, instance: u32, index: u32) -> Result<HuxHandle, SetRefusal>
+    ensures { result ≡ any_handle_in instance index set.now }
+{
+    match set.table(instance) {
+        Some(table) => match table.at(index) {
+            Some(handle) => Ok(handle_told(handle)),
+            None => Err(SetRefusal::NoHandle(HandleFault::NoHandle)),
+        },
+        None => Err(SetRefusal::NoInstance),
+    }
+}
+
+/// The handle at an index of the table of an instance of the set that is kept.
+fn find_any_handle(
+    alloc: Global,
+    set: &mut HuxSet,
+    instance: u32,
+    index: u32,
+) -> Result<HuxHandle, SetRefusal>
+    ensures seen { result ≡ any_handle_seen set.old.kept instance index }
+    ensures kept { set.new.kept ≡ set.old.kept }
+{
+    let Some(kept) = set.take(alloc) else {
+        return Err(SetRefusal::Empty);
+    };
+    let found = any_handle_in(kept.set(), instance, index);
+    set.put(alloc, kept);
+    found
 }
 
 /// The handle of a resource at an index of the table of an instance of the set that is kept.
@@ -285,4 +331,20 @@ pub fn handle(
     ensures kept { set.new.kept ≡ set.old.kept }
 {
     tell(find_handle(alloc, set, instance, index, resource), seen)
+}
+
+/// Tells the handle at an index of an instance's table, of whatever resource.
+pub fn handle_at(
+    alloc: Global,
+    set: &mut HuxSet,
+    instance: u32,
+    index: u32,
+    seen: &mut HuxHandle,
+) -> HuxVerdict
+    ensures verdict { result ≡ verdict_by of_set (any_handle_seen set.old.kept instance index) }
+    ensures seen { seen.new
+        ≡ told_or seen.old (any_handle_seen set.old.kept instance index) }
+    ensures kept { set.new.kept ≡ set.old.kept }
+{
+    tell(find_any_handle(alloc, set, instance, index), seen)
 }

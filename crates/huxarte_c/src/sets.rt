@@ -7,8 +7,8 @@ ghost use Rattle.huxarte_c.specs.Cores.{value_of};
 ghost use Rattle.huxarte_c_calls.specs.Verdicts.{verdict_by};
 ghost use Rattle.huxarte_c.specs.Kept.{Begins, IsDoneVerdict, IsNoBegin, IsNoCoreMove};
 ghost use Rattle.huxarte_c.specs.Kept.{IsNoListMove, IsNoMove, Moves};
-ghost use Rattle.huxarte_c.specs.Looking.{handle_seen, instance_seen, part_seen};
-ghost use Rattle.huxarte_c.specs.Looking.{state_seen, told_or};
+ghost use Rattle.huxarte_c.specs.Looking.{any_handle_seen, handle_seen, instance_seen};
+ghost use Rattle.huxarte_c.specs.Looking.{part_seen, state_seen, told_or};
 ghost use Rattle.huxarte_c.specs.Making.{IsNewVerdict};
 ghost use Rattle.huxarte_c.specs.Refused.{of_set};
 ghost use Rattle.huxarte_c.specs.Written.{regions_or, written_seen};
@@ -16,7 +16,8 @@ ghost use Rattle.huxarte_c.specs.Written.{regions_or, written_seen};
 use crate::cores::HuxCore;
 use crate::event::HuxEvent;
 use crate::hux_set::HuxSet;
-use crate::looking::{HuxInstance, HuxResource, HuxSetState, handle, instance, read, state};
+use crate::looking::{HuxInstance, HuxResource, HuxSetState};
+use crate::looking::{handle, handle_at, instance, read, state};
 use crate::making::make;
 use crate::moving::{begin, call, give, grow, stop, write};
 use crate::telling::{HuxRegion, HuxWritten, written};
@@ -255,4 +256,26 @@ pub extern "C" fn hux_set_handle(
     ensures kept { set.new.kept ≡ set.old.kept }
 {
     handle(alloc, set, number, index, resource, seen)
+}
+
+/// Tells the handle at an index of an instance's table, of whatever resource: all handles, where
+/// each of the indices that `hux_set_instance` tells of is asked for (CanonicalABI.md, "Table
+/// State").
+///
+/// The answer is `Fine`; else `Empty`, `NoInstance`, or `NoHandle`, with the reason 1, where no
+/// handle stands there; and `seen` stays.
+#[unsafe(no_mangle)]
+pub extern "C" fn hux_set_handle_at(
+    alloc: Global,
+    set: &mut HuxSet,
+    number: u32,
+    index: u32,
+    seen: &mut HuxHandle,
+) -> HuxVerdict
+    ensures verdict { result ≡ verdict_by of_set (any_handle_seen set.old.kept number index) }
+    ensures seen { seen.new
+        ≡ told_or seen.old (any_handle_seen set.old.kept number index) }
+    ensures kept { set.new.kept ≡ set.old.kept }
+{
+    handle_at(alloc, set, number, index, seen)
 }

@@ -1,4 +1,6 @@
 mod FuncLaws
 pub mod LinkLaws
+mod ListLaws
 mod OnlyLaws
+mod PlanLaws
 mod SoundLaws

@@ -4,5 +4,6 @@ pub mod Fitting
 pub mod Funcs
 pub mod Laying
 pub mod Linking
+pub mod Plans
 pub mod Showing
 pub mod Sound

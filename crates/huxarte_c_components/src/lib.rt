@@ -1,8 +1,8 @@
 //! Components by the bytes of their files: checked, shown, linked, laid out, and called.
 //!
 //! Whether a file is a valid component, and fits a world; how the types of its functions lie, what
-//! passing the parameters of a call asks for, and the parameters copied. The words and the files of
-//! a command that is handed over are parts of the bytes.
+//! passing the parameters of a call asks for, and the parameters copied; what an engine needs of a
+//! component. The words and the files of a command that is handed over are parts of the bytes.
 #![tactic(auto)]
 
 mod calling;
@@ -15,6 +15,9 @@ mod func_type;
 mod given;
 mod laying;
 mod linking;
+mod plan_part;
+mod planned;
+mod planning;
 mod requesting;
 mod showing;
 mod sound;
@@ -28,6 +31,8 @@ pub use fault::ComponentFault;
 pub use given::{Given, HuxFile};
 pub use laying::lay;
 pub use linking::{LinkRefusal, files_of, link_files};
+pub use plan_part::{HuxPlan, HuxPlanKind, HuxPlanPart};
+pub use planning::plan;
 pub use requesting::ask;
 pub use showing::show;
 pub use sound::{check_one, read_one};

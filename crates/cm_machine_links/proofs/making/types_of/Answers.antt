@@ -1,5 +1,5 @@
 use Rattle.std.proofs.Common.{◌≡◌, ◌∙◌, ◌+◌, ◌≤◌, List, Some, map, take, length, sym, ap, subst, arith, slice_get, Global}
-use Rattle.std.specs.declared.rc.Rc.{Rc}
+use Rattle.std.specs.declared.sync.Arc.{Arc}
 use Rattle.std.proofs.lemmas.List.{take_all}
 use Rattle.cm_types.specs.Types.{FuncTy}
 use Rattle.cm_validate_spaces.specs.Checked.{funcs_in}
@@ -21,7 +21,7 @@ loop-component-preserved c =
     let at : slice_get cs i ≡ Some x = component_at c.components-components.result.now cs i x c.components-components.ensures.components c.loop-component-test.true c.index-components-component.is in
     let types : AreCallTypes (standing set i) (funcs_in x) row.items =
     subst (λ (fs : List FuncTy). AreCallTypes (standing set i) fs row.items) c.types.ensures.funcs c.in_ok-call_types.ensures in
-    subst (λ (l : List (List (Rc CallTypes Global))). AreTypesOf set 0 (take (i + 1) cs) l)
+    subst (λ (l : List (List (Arc CallTypes Global))). AreTypesOf set 0 (take (i + 1) cs) l)
     (sym (ap (map (λ v. v.items)) c.in_ok-push.ensures.items ∙ mapped_more c.loop-component.types.items row))
     (one_more_types set cs (map (λ v. v.items) c.loop-component.types.items) i x row.items at types c.loop-component.invariant)
 

@@ -1,5 +1,5 @@
 use Rattle.std.proofs.Common.{◌<◌, ◌≤◌, ◌+◌, List, length, take, sym, subst, arith, None, Global}
-use Rattle.std.specs.declared.rc.Rc.{Rc}
+use Rattle.std.specs.declared.sync.Arc.{Arc}
 use Rattle.std.proofs.lemmas.List.{take_all}
 use Rattle.cm_types.specs.Types.{FuncTy, no_fields}
 use Rattle.cm_types_arena.specs.Places.{funcs_of}
@@ -15,9 +15,9 @@ loop-func-preserved g c =
     let fs : List FuncTy = funcs_of c.args.types.now in
     let i = c.loop-func.func in
     let lt : i < length fs = omega (arith, c.loop-func-test.true, c.func_count-func-end.ensures) in
-    let t : Rc CallTypes Global = c.in_ok-new.field-0 in
+    let t : Arc CallTypes Global = c.in_ok-new.field-0 in
     let is : IsCallTypes s (func_at fs i) t.value = subst (IsCallTypes s (func_at fs i)) (sym c.in_ok-new.ensures.ok) (c.in_ok-one.ensures.passes s c.in_ok-layouts.ensures) in
-    subst (λ (l : List (Rc CallTypes Global)). AreCallTypes s (take (i + 1) fs) l) (sym c.in_ok-push.ensures.items)
+    subst (λ (l : List (Arc CallTypes Global)). AreCallTypes s (take (i + 1) fs) l) (sym c.in_ok-push.ensures.items)
     (one_type_more s fs i (record { params = no_fields; result = None }) c.loop-func.all.items t lt is c.in_ok-one.ensures.spelled c.loop-func.invariant)
 
 pub returns : goal.returns
