@@ -164,7 +164,9 @@ class Guests:
         return self.played.give(0)
 
     def go_on(self, event):
-        """Plays until the user goes on."""
+        """Plays until the user goes on, and answers what adapters wrote last: in whose memory, and
+        where. It is told with the event that is next once a value was handed over."""
+        last = None
         while event.kind != 4:
             if event.kind == 3:
                 event = self.allocate(event.instance, *event.numbers())
@@ -172,6 +174,9 @@ class Guests:
                 event = self.greet(event.instance, *event.numbers())
             else:
                 event = self.played.give()
+            told, regions = self.played.written()
+            last = (told, regions[-1]) if regions else last
+        return last
 
 
 def strings(library, folder):
@@ -179,9 +184,8 @@ def strings(library, folder):
         name = "Zoë 🦀".encode()
         pair.begin(1)
         pair.write(0, name)
-        Guests(pair).go_on(pair.call(1, 0, len(name), 256))
-        told, regions = pair.written()
-        assert told == 1 and regions[-1] == (256, 8), "the place of the result is written last"
+        last = Guests(pair).go_on(pair.call(1, 0, len(name), 256))
+        assert last == (1, (256, 8)), "the place of the result is written last"
         at, size = (int.from_bytes(pair.read(1, it, 4), "little") for it in (256, 260))
         print(pair.read(1, at, size).decode())
         pair.give()
