@@ -10,12 +10,12 @@ _hux() {
         show) words="--json --quiet --help" ;;
         core) words="--json --quiet --help" ;;
         conform) words="--wit --world --json --quiet --help" ;;
-        link) words="--out --export --mermaid --json --quiet --help" ;;
+        link) words="--out --export --serve --nearest --mermaid --json --quiet --help" ;;
         unbundle) words="--out --json --quiet --help" ;;
-        plug) words="--plug --out --json --quiet --help" ;;
-        play) words="--script --values --mermaid --messages --json --quiet --help" ;;
-        call) words="--script --json --quiet --help" ;;
-        live) words="--record --limit --pages --values --quiet --help" ;;
+        plug) words="--plug --out --serve --json --quiet --help" ;;
+        play) words="--script --serve --nearest --values --mermaid --messages --json --quiet --help" ;;
+        call) words="--script --serve --nearest --json --quiet --help" ;;
+        live) words="--serve --nearest --record --limit --pages --values --quiet --help" ;;
         stub) words="--out --caller --json --quiet --help" ;;
         explain) words="--json --quiet --help" ;;
         diff) words="--world --json --quiet --help" ;;

@@ -9,7 +9,7 @@ use Rattle.cm_validate_model.specs.Definitions.{NamedExport}
 use Rattle.cm_validate_model.specs.Spaces.{Spaces}
 use Rattle.cm_match_model.specs.declared.component.Link.{Link}
 use Rattle.cm_match_model.specs.declared.plan.PlanLine.{PlanLine}
-use Rattle.cm_match_model.specs.Imports.{ImportAt, all_imports_from, import_in, imports_from, link_of, links_of}
+use Rattle.cm_match_model.specs.Imports.{ImportAt, LinkSet, all_imports_from, import_in, imports_from, link_of, links_of}
 use Rattle.cm_match_model.specs.Links.{lines_of, plan_line}
 use Rattle.cm_match_model.specs.Origins.{LeadEarlier}
 use Rattle.cm_bundle.specs.Trees.{SupplyTree}
@@ -89,28 +89,28 @@ all_more P (Some x) xs one all = (one, all)
 abbrev pub IsBefore : ℕ → SupplyTree → Type 0
 IsBefore c x = x.export.part < c
 
-module _ (set : List Spaces) (lead : LeadEarlier (links_of set)) (c : ℕ) where
-  before : (i : ImportAt) (l : Link) → IsHereIn set c i → link_of set i ≡ Some l → IfSome (argument_of set (plan_line i l)) (IsBefore c)
+module _ (set : LinkSet) (lead : LeadEarlier (links_of set)) (c : ℕ) where
+  before : (i : ImportAt) (l : Link) → IsHereIn set.spaces c i → link_of set i ≡ Some l → IfSome (argument_of set.spaces (plan_line i l)) (IsBefore c)
   before i l here e =
       let linked : links_of set i.component i.number ≡ Some l = rw here.0 e in
       let earlier : l.component < c = subst (λ n. l.component < n) here.1 (lead i.component i.number l linked) in
-      turned (argument_of set (plan_line i l)) earlier (of_provider set (plan_line i l))
+      turned (argument_of set.spaces (plan_line i l)) earlier (of_provider set.spaces (plan_line i l))
     where
       turned : (o : Option SupplyTree) → l.component < c → IfSome o (λ x. x.export.part ≡ l.component) → IfSome o (IsBefore c)
       turned None lt h = tt {0}
       turned (Some x) lt h = omega (arith, lt, h)
 
-  all_before : (is : List ImportAt) → AllByRecursion (IsHereIn set c) is → AllByRecursion (IsBefore c) (filter_map (argument_of set) (lines_of set is))
+  all_before : (is : List ImportAt) → AllByRecursion (IsHereIn set.spaces c) is → AllByRecursion (IsBefore c) (filter_map (argument_of set.spaces) (lines_of set is))
   all_before [] all = tt {0}
   all_before (i ∷ is) all = by_link (all_before is all.1) (link_of set i) refl
     where
-      by_link : AllByRecursion (IsBefore c) (filter_map (argument_of set) (lines_of set is)) → (o : Option Link) → link_of set i ≡ o → AllByRecursion (IsBefore c) (filter_map (argument_of set) (lines_of set (i ∷ is)))
+      by_link : AllByRecursion (IsBefore c) (filter_map (argument_of set.spaces) (lines_of set is)) → (o : Option Link) → link_of set i ≡ o → AllByRecursion (IsBefore c) (filter_map (argument_of set.spaces) (lines_of set (i ∷ is)))
       by_link rest None e = rw e rest
-      by_link rest (Some l) e = rw e (all_more (IsBefore c) (argument_of set (plan_line i l)) _ (before i l all.0 e) rest)
+      by_link rest (Some l) e = rw e (all_more (IsBefore c) (argument_of set.spaces (plan_line i l)) _ (before i l all.0 e) rest)
 
   pub arguments_before : AllByRecursion (IsBefore c) (arguments_of set c)
-  arguments_before = by_place (slice_get set c) refl
+  arguments_before = by_place (slice_get set.spaces c) refl
     where
-      by_place : (o : Option Spaces) → slice_get set c ≡ o → AllByRecursion (IsBefore c) (arguments_of set c)
+      by_place : (o : Option Spaces) → slice_get set.spaces c ≡ o → AllByRecursion (IsBefore c) (arguments_of set c)
       by_place None e = rw e (tt {0})
-      by_place (Some s) e = subst (λ is. AllByRecursion (IsBefore c) (filter_map (argument_of set) (lines_of set is))) (sym (imports_here set c s e)) (all_before (imports_from c 0 s.imports) (all_here_in set c s e))
+      by_place (Some s) e = subst (λ is. AllByRecursion (IsBefore c) (filter_map (argument_of set.spaces) (lines_of set is))) (sym (imports_here set.spaces c s e)) (all_before (imports_from c 0 s.imports) (all_here_in set.spaces c s e))

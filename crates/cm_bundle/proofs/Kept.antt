@@ -6,7 +6,7 @@ use Rattle.std.specs.Coded.{le_prop}
 use Rattle.std.specs.List.{enumerate_from}
 use Rattle.std.specs.Prelude.{IfOk, Result}
 use Rattle.cm_lemmas.proofs.Lists.{map_length, mapped_twice}
-use Rattle.cm_validate_model.specs.Spaces.{Spaces}
+use Rattle.cm_match_model.specs.Imports.{LinkSet}
 use Rattle.cm_match_model.specs.Links.{CanBeLinked}
 use Rattle.cm_bundle.specs.Answers.{Accepts}
 use Rattle.cm_bundle.specs.declared.form.Bundle.{Bundle}
@@ -18,7 +18,7 @@ use Rattle.cm_bundle.specs.Bundled.{bundle_of, part_of}
 use Rattle.cm_bundle.proofs.ServedLaws.{files_kept}
 
 -- what is read as the bundle of a set has its files
-pub files_read : (r : Result Bundle BundleFault) (set : List Spaces) (files : List (List ℕ))
+pub files_read : (r : Result Bundle BundleFault) (set : LinkSet) (files : List (List ℕ))
     (exporter : ℕ) → Accepts r (bundle_of set files exporter)
     → IfOk r (λ b. map (λ (p : Part). p.file.now) b.parts.items ≡ files)
 files_read (Ok b) set files exporter h =
@@ -27,17 +27,17 @@ files_read (Ok b) set files exporter h =
     ∙ files_kept set files exporter
 files_read (Err f) set files exporter h = tt
 
-parts_count : (set : List Spaces) (files : List (List ℕ)) (exporter : ℕ)
+parts_count : (set : LinkSet) (files : List (List ℕ)) (exporter : ℕ)
     → length (bundle_of set files exporter).parts ≡ length files
 parts_count set files exporter =
     map_length (part_of set) (enumerate_from 0 files) ∙ length-enumerate_from 0 files
 
 -- a set has few components
-pub few_parts : (set : List Spaces) → ∥ CanBeLinked set ∥₁ → (files : List (List ℕ))
+pub few_parts : (set : LinkSet) → ∥ CanBeLinked set ∥₁ → (files : List (List ℕ))
     (exporter : ℕ) (b : BundleTree) → b ≡ bundle_of set files exporter
-    → length files ≡ length set → MAX_PARTS < length b.parts → ⊥
+    → length files ≡ length set.spaces → MAX_PARTS < length b.parts → ⊥
 few_parts set merely files exporter b is each many =
-    let few : length set ≤ 16 = ∥∥₁_elim merely le_prop (λ can. omega (arith, can.few)) in
+    let few : length set.spaces ≤ 16 = ∥∥₁_elim merely le_prop (λ can. omega (arith, can.few)) in
     absurd
     (omega (
       arith,

@@ -4,7 +4,7 @@ use Rattle.std.proofs.Math.Seq.{take-suc}
 use Rattle.std.proofs.lemmas.List.{append-nil, map-append}
 use Rattle.std.proofs.lemmas.List.Elements.{filter_map-append}
 use Rattle.std.specs.List.{AllByRecursion, cons_option, enumerate_from, filter_map}
-use Rattle.cm_validate_model.specs.Spaces.{Spaces}
+use Rattle.cm_match_model.specs.Imports.{LinkSet}
 use Rattle.cm_lemmas.proofs.Lists.{element_again}
 use Rattle.cm_bundle.specs.declared.form.Supply.{Supply}
 use Rattle.cm_bundle.specs.declared.form.Part.{Part}
@@ -51,7 +51,7 @@ texts_more (y ∷ ys) x all one = (all.0, texts_more ys x all.1 one)
 
 -- ---- parts
 
-module _ (set : List Spaces) where
+module _ (set : LinkSet) where
   one_more_from : (n : ℕ) (fs : List (List ℕ)) (f : List ℕ) → map (part_of set) (enumerate_from n (fs ++ f ∷ [])) ≡ map (part_of set) (enumerate_from n fs) ++ part_of set (n + length fs, f) ∷ []
   one_more_from n [] f = ap (λ m. part_of set (m, f) ∷ []) (omega arith)
   one_more_from n (g ∷ fs) f = ap (λ l. part_of set (n, g) ∷ l) (one_more_from (n + 1) fs f ∙ ap (λ m. map (part_of set) (enumerate_from (n + 1) fs) ++ part_of set (m, f) ∷ []) (omega arith))

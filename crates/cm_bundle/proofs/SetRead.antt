@@ -10,7 +10,7 @@ use Rattle.cm_types_arena.specs.declared.externs.Extern.{Extern}
 use Rattle.cm_validate_entries.specs.ComponentSpaces.{export_def}
 use Rattle.cm_validate_entries.specs.declared.spaces.ExportEntry.{ExportEntry}
 use Rattle.cm_match_model.specs.Imports.{import_in}
-use Rattle.cm_match_serving.specs.Sets.{funcs_at, set_of, types_at}
+use Rattle.cm_match_serving.specs.Sets.{funcs_at, spaces_of_all, types_at}
 use Rattle.cm_match_serving.specs.cm_validate_spaces.Checked.{funcs_in, spaces_in, types_in}
 use Rattle.cm_match_serving.specs.cm_validate_spaces.declared.checked.Checked.{Checked}
 use Rattle.cm_match.proofs.Follow.{space_at}
@@ -30,16 +30,16 @@ shown cs c e = exported c (export_def (types_at cs c) (funcs_at cs c) e)
 
 -- there is no such component
 module _ (cs : List Checked) (c : ℕ) (there : slice_get cs c ≡ None) where
-  none_there : slice_get (set_of cs) c ≡ None
+  none_there : slice_get (spaces_of_all cs) c ≡ None
   none_there = space_at cs c ∙ ap (option_map spaces_in) there
 
-  pub import_none : (i : ℕ) → import_in (set_of cs) c i ≡ None
+  pub import_none : (i : ℕ) → import_in (spaces_of_all cs) c i ≡ None
   import_none i = ap (option_and_then (λ s. slice_get s.imports i)) none_there
 
-  pub export_none : (i : ℕ) → export_at (set_of cs) c i ≡ None
+  pub export_none : (i : ℕ) → export_at (spaces_of_all cs) c i ≡ None
   export_none i = ap (option_and_then (λ s. slice_get s.exports i)) none_there
 
-  pub exports_none : [] ≡ exports_of (set_of cs) c
+  pub exports_none : [] ≡ exports_of (spaces_of_all cs) c
   exports_none = sym (ap (λ o. option_map_or (λ s. map (exported c) s.exports) o []) none_there)
 
 module _ (cs : List Checked) (c : ℕ) (x : Checked) (there : slice_get cs c ≡ Some x) where
@@ -49,11 +49,11 @@ module _ (cs : List Checked) (c : ℕ) (x : Checked) (there : slice_get cs c ≡
   funcs_there : funcs_at cs c ≡ funcs_in x
   funcs_there = ap (λ o. option_map_or funcs_in o []) there
 
-  pub space_there : slice_get (set_of cs) c ≡ Some (spaces_in x)
+  pub space_there : slice_get (spaces_of_all cs) c ≡ Some (spaces_in x)
   space_there = space_at cs c ∙ ap (option_map spaces_in) there
 
   pub import_read : (i : ℕ) (es : List Extern) (r : Option (Bor Extern)) → (spaces_in x).imports ≡ map (extern_of (types_in x) (funcs_in x)) es → IsItemAt es i r
-      → option_map (λ e. extern_of (types_at cs c) (funcs_at cs c) e.now) r ≡ import_in (set_of cs) c i
+      → option_map (λ e. extern_of (types_at cs c) (funcs_at cs c) e.now) r ≡ import_in (spaces_of_all cs) c i
   import_read i es r are h =
       got_by (extern_of (types_at cs c) (funcs_at cs c)) es i r h
       ∙ ap (λ ts. option_map (extern_of ts (funcs_at cs c)) (slice_get es i)) types_there
@@ -63,7 +63,7 @@ module _ (cs : List Checked) (c : ℕ) (x : Checked) (there : slice_get cs c ≡
       ∙ sym (ap (option_and_then (λ s. slice_get s.imports i)) space_there)
 
   pub name_read : (i : ℕ) (es : List ExportEntry) (r : Option (Bor ExportEntry)) → (spaces_in x).exports ≡ map (export_def (types_in x) (funcs_in x)) es → IsItemAt es i r
-      → option_map (λ e. e.now.name.now) r ≡ option_map (λ e. e.name) (export_at (set_of cs) c i)
+      → option_map (λ e. e.now.name.now) r ≡ option_map (λ e. e.name) (export_at (spaces_of_all cs) c i)
   name_read i es r are h =
       got_by (λ e. e.name.now) es i r h
       ∙ names (slice_get es i)
@@ -73,7 +73,7 @@ module _ (cs : List Checked) (c : ℕ) (x : Checked) (there : slice_get cs c ≡
       names None = refl
       names (Some e) = refl
 
-  pub exports_told : (es : List ExportEntry) (out : List SupplyTree) → (spaces_in x).exports ≡ map (export_def (types_in x) (funcs_in x)) es → out ≡ map (shown cs c) es → out ≡ exports_of (set_of cs) c
+  pub exports_told : (es : List ExportEntry) (out : List SupplyTree) → (spaces_in x).exports ≡ map (export_def (types_in x) (funcs_in x)) es → out ≡ map (shown cs c) es → out ≡ exports_of (spaces_of_all cs) c
   exports_told es out are told =
       told
       ∙ ap (λ ts. map (λ e. exported c (export_def ts (funcs_at cs c) e)) es) types_there

@@ -4,7 +4,7 @@ use Rattle.std.specs.List.{AllByRecursion, enumerate_from}
 use Rattle.std.specs.Option.{option_map_or}
 use Rattle.cm_validate_model.specs.Definitions.{NamedExport}
 use Rattle.cm_validate_model.specs.Spaces.{Spaces}
-use Rattle.cm_match_model.specs.Imports.{links_of}
+use Rattle.cm_match_model.specs.Imports.{LinkSet, links_of}
 use Rattle.cm_match_model.specs.Origins.{LeadEarlier}
 use Rattle.cm_bundle.specs.Spelled.{AreSupplied, IsSupply}
 use Rattle.cm_bundle.specs.Trees.{PartTree, SupplyTree}
@@ -20,7 +20,7 @@ are_supplies c (x ∷ xs) texts before = (record { name = texts.0.0; export = te
 abbrev pub AreTexts : List PartTree → Type 0
 AreTexts ps = AllByRecursion (λ p. AllByRecursion HasTexts p.arguments) ps
 
-module _ (set : List Spaces) (lead : LeadEarlier (links_of set)) where
+module _ (set : LinkSet) (lead : LeadEarlier (links_of set)) where
   pub are_supplied : (n : ℕ) (files : List (List ℕ)) (exports : List SupplyTree) → AreTexts (map (part_of set) (enumerate_from n files)) → AllByRecursion (IsSupply (n + length files)) exports → AreSupplied n (map (part_of set) (enumerate_from n files)) exports
   are_supplied n [] exports texts all = subst (λ m. AllByRecursion (IsSupply m) exports) (omega arith) all
   are_supplied n (f ∷ fs) exports texts all = (

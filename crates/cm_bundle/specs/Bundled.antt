@@ -9,7 +9,7 @@ use Rattle.cm_validate_model.specs.Definitions.{ExportDef, NamedExport}
 use Rattle.cm_validate_model.specs.Definitions as definitions
 use Rattle.cm_validate_model.specs.Spaces.{Spaces}
 use Rattle.cm_match_model.specs.declared.plan.PlanLine.{PlanLine}
-use Rattle.cm_match_model.specs.Imports.{import_in}
+use Rattle.cm_match_model.specs.Imports.{LinkSet, import_in}
 use Rattle.cm_match_model.specs.Links.{lines_of}
 use Rattle.cm_match.specs.Before.{imports_at}
 use Rattle.cm_bundle.specs.declared.form.Sort.{Sort}
@@ -47,13 +47,14 @@ argument_of set l =
     (import_in set l.importer l.import)
 
 -- what the imports of a component are given, in order
-abbrev pub arguments_of : List Spaces → ℕ → List SupplyTree
-arguments_of set component = filter_map (argument_of set) (lines_of set (imports_at set component))
+abbrev pub arguments_of : LinkSet → ℕ → List SupplyTree
+arguments_of set component =
+    filter_map (argument_of set.spaces) (lines_of set (imports_at set.spaces component))
 
 -- ---- bundles
 
 -- the part of a component, by its number and its file
-abbrev pub part_of : List Spaces → ℕ × List ℕ → PartTree
+abbrev pub part_of : LinkSet → ℕ × List ℕ → PartTree
 part_of set p = record { file = p.1; arguments = arguments_of set p.0 }
 
 -- an export of a component, under its own name
@@ -69,8 +70,8 @@ exports_of set component =
     option_map_or (λ s. map (exported component) s.exports) (slice_get set component) []
 
 -- the bundle of a set with these files, which exports what this component does
-abbrev pub bundle_of : List Spaces → List (List ℕ) → ℕ → BundleTree
+abbrev pub bundle_of : LinkSet → List (List ℕ) → ℕ → BundleTree
 bundle_of set files exporter = record {
   parts = map (part_of set) (enumerate_from 0 files);
-  exports = exports_of set exporter;
+  exports = exports_of set.spaces exporter;
 }

@@ -41,7 +41,7 @@ fn parts_of<'a>(
     linked: &'a Linked<'_>,
     files: &[&'a [u8]],
 ) -> Result<Vec<Part<'a>>, AllocError>
-    requires { length files.now ≡ length (set_in linked.now) }
+    requires { length files.now ≡ length (set_in linked.now).spaces }
     ensures parts { IfOk result (λ v. map part_tree v.items ≡ map (part_of (set_in linked.now))
         (enumerate_from 0 (map (λ f. f.now) files.now))) }
     ensures texts { IfOk result (λ v.

@@ -1,7 +1,7 @@
 //! Bundles of linked sets, written and read back.
 
 ghost use Rattle.std.specs.Prelude.{◌≡◌, ◌⊎◌, List, ℕ, length, map, IfOk, IfErr};
-ghost use Rattle.cm_validate_model.specs.Spaces.{Spaces};
+ghost use Rattle.cm_match_model.specs.Imports.{LinkSet};
 ghost use Rattle.cm_match.specs.Linked.{set_in};
 ghost use Rattle.cm_bundle.specs.Answers.{Accepts, Refuses};
 ghost use Rattle.cm_bundle.specs.Grammar.{FirstFault};
@@ -108,11 +108,11 @@ pub fn unbundle(alloc: Global, bytes: &[u8]) -> Result<Bundle<'_>, BundleFault>
     ensures bundle { IfOk result (λ b. IsBundle (bundle_tree b)) }
     ensures spelled { IfOk result (λ b. bytes.now ≡ spelled (bundle_tree b)) }
     // A bundle of a set is read as that, unless memory runs out: its files, and its plan by names.
-    ensures whole { (set : List Spaces) (files : List (List ℕ)) (exporter : ℕ)
+    ensures whole { (set : LinkSet) (files : List (List ℕ)) (exporter : ℕ)
         → IsBundle (bundle_of set files exporter)
         → bytes.now ≡ spelled (bundle_of set files exporter)
         → Accepts result (bundle_of set files exporter) }
-    ensures files { (set : List Spaces) (files : List (List ℕ)) (exporter : ℕ)
+    ensures files { (set : LinkSet) (files : List (List ℕ)) (exporter : ℕ)
         → IsBundle (bundle_of set files exporter)
         → bytes.now ≡ spelled (bundle_of set files exporter)
         → IfOk result (λ b. map (λ p. p.file.now) b.parts.items ≡ files) }

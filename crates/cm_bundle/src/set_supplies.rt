@@ -45,7 +45,7 @@ fn export_sort(def: &ExportedEntry<'_>) -> Sort
 fn import_at<'a>(linked: &'a Linked<'_>, component: usize, import: usize) -> Option<&'a Extern>
     ensures { option_map (λ i. extern_of (types_at (components_in linked.now) component)
         (funcs_at (components_in linked.now) component) i.now) result
-        ≡ import_in (set_in linked.now) component import }
+        ≡ import_in (set_in linked.now).spaces component import }
 {
     linked.components().get(component)?.imports().get(import)
 }
@@ -53,7 +53,7 @@ fn import_at<'a>(linked: &'a Linked<'_>, component: usize, import: usize) -> Opt
 /// The name of the export of a number of a component.
 fn export_name<'a>(linked: &'a Linked<'_>, component: usize, export: usize) -> Option<&'a str>
     ensures name { option_map (λ n. n.now) result
-        ≡ option_map (λ e. e.name) (export_at (set_in linked.now) component export) }
+        ≡ option_map (λ e. e.name) (export_at (set_in linked.now).spaces component export) }
     ensures text { IfSome result (λ n. is_utf8 n.now ≡ true) }
 {
     let components = linked.components();
@@ -69,7 +69,8 @@ fn export_name<'a>(linked: &'a Linked<'_>, component: usize, export: usize) -> O
 
 /// What the import of a line is given.
 fn argument_of<'a>(linked: &'a Linked<'_>, line: &PlanLine) -> Option<Supply<'a>>
-    ensures argument { option_map supply_tree result ≡ argument_of (set_in linked.now) line.now }
+    ensures argument { option_map supply_tree result
+        ≡ argument_of (set_in linked.now).spaces line.now }
     ensures texts { IfSome result (λ x. HasTexts (supply_tree x)) }
 {
     let import = import_at(linked, line.importer, line.import)?;
@@ -91,7 +92,7 @@ pub fn arguments_of<'a>(
     lines: &[PlanLine],
 ) -> Result<Vec<Supply<'a>>, AllocError>
     ensures arguments { IfOk result (λ v. map supply_tree v.items
-        ≡ filter_map (argument_of (set_in linked.now)) lines.now) }
+        ≡ filter_map (argument_of (set_in linked.now).spaces) lines.now) }
     ensures texts { IfOk result (λ v. AllByRecursion HasTexts (map supply_tree v.items)) }
 {
     let mut arguments = Vec::new(alloc);
@@ -127,7 +128,7 @@ pub fn exports_of<'a>(
     component: usize,
 ) -> Result<Vec<Supply<'a>>, AllocError>
     ensures exports { IfOk result (λ v. map supply_tree v.items
-        ≡ exports_of (set_in linked.now) component) }
+        ≡ exports_of (set_in linked.now).spaces component) }
     ensures texts { IfOk result (λ v. AllByRecursion HasTexts (map supply_tree v.items)) }
 {
     let mut exports = Vec::new(alloc);

@@ -46,7 +46,7 @@ impl<'b, 'a> Seat<'b, 'a> {
         instance: u32,
     ) -> Result<Seat<'b, 'a>, SeatFault>
         ensures instance { IfOk result (λ s. instance_of s ≡ instance) }
-        ensures component { IfOk result (λ s. slice_get (set_in linked.now) instance
+        ensures component { IfOk result (λ s. slice_get (set_in linked.now).spaces instance
             ≡ Some (component_of s)) }
     {
         let Some(checked) = linked.components().get(instance as usize) else {

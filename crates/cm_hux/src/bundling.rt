@@ -24,7 +24,8 @@ pub(crate) fn run_link<'a, F: Files, S: Streams, O: Write>(
 ) -> Result<Ending, Fault<'a>> {
     let export = export_of(alloc, words.export)?;
     keep_inputs(alloc, words.out, &words.files)?;
-    let (loaded, unread) = load_files(alloc, files, &words.files);
+    let (mut loaded, unread) = load_files(alloc, files, &words.files);
+    loaded.serve_by(alloc, &words.serve)?;
     let linked = loaded.link(alloc, unread)?;
     let set = LinkedFiles {
         alloc,
@@ -52,7 +53,8 @@ pub(crate) fn run_plug<'a, F: Files, S: Streams, O: Write>(
     out: &mut O,
 ) -> Result<Ending, Fault<'a>> {
     keep_inputs(alloc, words.out, &words.files)?;
-    let (loaded, unread) = load_files(alloc, files, &words.files);
+    let (mut loaded, unread) = load_files(alloc, files, &words.files);
+    loaded.serve_by(alloc, &words.serve)?;
     let linked = link_with_open(alloc, &loaded, unread, habits, out)?;
     let set = LinkedFiles {
         alloc,

@@ -4,8 +4,8 @@ use crate::objects::tell_written;
 use cm_binary::encode;
 use cm_binary_model::Component;
 use cm_hux_play::files::{
-    Ending, Fault, Files, Streams, StubFault, caller_for, load_files, provider_for,
-    refuse_to_overwrite, write_file,
+    Ending, Fault, Files, LoadedFiles, Streams, caller, load_files, provider_for,
+    refuse_to_overwrite, signature, write_file,
 };
 use cm_hux_words::{Habits, StubWords};
 use std::alloc::Global;
@@ -40,24 +40,25 @@ fn stub_bytes<'a, F: Files>(
     if let Some(fault) = unread {
         return Err(fault);
     }
-    let components = loaded.into_components(alloc)?;
-    let stub = stub(alloc, &components, words.caller)?;
+    let stub = if words.caller {
+        caller_of_last(alloc, &loaded)?
+    } else {
+        provider(alloc, loaded)?
+    };
     Ok(encode(alloc, &stub)?)
 }
 
-fn stub(
-    alloc: Global,
-    components: &[Component],
-    caller: bool,
-) -> Result<Component, Fault<'static>> {
-    let stub = if caller {
-        caller_for(alloc, components)
-    } else {
-        provider_for(alloc, components)
+/// A component that exports what the first of these files imports.
+fn provider<'a>(alloc: Global, loaded: LoadedFiles<'a>) -> Result<Component, Fault<'a>> {
+    let components = loaded.into_components(alloc)?;
+    Ok(provider_for(alloc, &components)?)
+}
+
+/// A component that imports what the last of these files exports, whatever serves their imports.
+fn caller_of_last<'a>(alloc: Global, loaded: &LoadedFiles<'a>) -> Result<Component, Fault<'a>> {
+    let mut components = loaded.check(alloc, None)?;
+    let Some(last) = components.pop() else {
+        return Err(Fault::Memory);
     };
-    match stub {
-        Ok(stub) => Ok(stub),
-        Err(StubFault::Memory) => Err(Fault::Memory),
-        Err(fault) => Err(Fault::Stub(fault)),
-    }
+    Ok(caller(alloc, &signature(alloc, last)?)?)
 }

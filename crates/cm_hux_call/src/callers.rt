@@ -2,8 +2,8 @@
 
 use cm_hux_drive::Set;
 use cm_hux_drive::files::{
-    Component, Fault, Linked, LoadedFiles, StubFault, ToolFault, caller, checked_of, link, of_file,
-    signature,
+    Checked, Choices, Component, Fault, Linked, LoadedFiles, ToolFault, caller, checked_of,
+    link_by, links_by_name, of_file, signature,
 };
 use cm_hux_drive::lines::SetSize;
 use std::alloc::{AllocError, Global};
@@ -22,26 +22,27 @@ pub(crate) fn caller_of<'a>(
     let Some(last) = loaded.files().last() else {
         return Err(Fault::Memory);
     };
-    match caller(alloc, &signature(alloc, last.check(alloc)?)?) {
-        Ok(stub) => Ok(stub),
-        Err(StubFault::Memory) => Err(Fault::Memory),
-        Err(fault) => Err(Fault::Stub(fault)),
-    }
+    Ok(caller(alloc, &signature(alloc, last.check(alloc)?)?)?)
 }
 
-/// The linked set of some files and a caller behind them.
+/// The linked set of some files and a caller behind them, whose imports the exports of the last
+/// file serve.
 pub(crate) fn link_behind<'a, 'b>(
     alloc: Global,
     loaded: &'b LoadedFiles<'a>,
     stub: &'b Component,
 ) -> Result<Linked<'b>, Fault<'a>> {
     let mut components = loaded.check(alloc, None)?;
+    let mut choices = loaded.choices(alloc, &components)?;
     match checked_of(alloc, CALLER, stub) {
-        Ok(checked) => components.push(checked)?,
+        Ok(caller) => {
+            choose_last(alloc, &mut choices, &components, &caller)?;
+            components.push(caller)?;
+        }
         Err(bad) => return Err(of_file(bad, String::new(alloc))),
     }
     let count = components.len();
-    match link(alloc, components) {
+    match link_by(alloc, components, choices) {
         Ok(linked) => Ok(linked),
         Err(fault) => Err(Fault::Tool(ToolFault::Link {
             fault,
@@ -49,6 +50,26 @@ pub(crate) fn link_behind<'a, 'b>(
             tail: String::new(alloc),
         })),
     }
+}
+
+/// Chooses, for each import of a caller behind these components, the export of its name of the
+/// last one.
+fn choose_last(
+    alloc: Global,
+    choices: &mut Choices,
+    components: &[Checked<'_>],
+    caller: &Checked<'_>,
+) -> Result<(), AllocError> {
+    let Some(last) = components.last() else {
+        return Ok(());
+    };
+    for _ in choices.links.len()..components.len() {
+        choices.links.push(Vec::new(alloc))?;
+    }
+    let number = components.len().saturating_sub(1);
+    let row = links_by_name(alloc, number, last.exports(), caller.imports())?;
+    choices.links.push(row)?;
+    Ok(())
 }
 
 /// A set of what is linked: these pages for the files, and none yet for the caller behind them.

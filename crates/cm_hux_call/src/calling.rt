@@ -29,7 +29,8 @@ pub fn run_call<'a, F: Files, O: Write, E: Write>(
     err: &mut E,
 ) -> Result<Ending, Fault<'a>> {
     let call = CallText::read(alloc, words.call)?;
-    let (loaded, unread) = load_files(alloc, files, &words.files);
+    let (mut loaded, unread) = load_files(alloc, files, &words.files);
+    loaded.serve_by(alloc, &words.serve)?;
     let stub = caller_of(alloc, &loaded, unread)?;
     let linked = link_behind(alloc, &loaded, &stub)?;
     let Some((seat, components)) = linked.components().split_last() else {

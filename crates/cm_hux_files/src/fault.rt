@@ -109,6 +109,15 @@ impl<'a> From<ToolFault<'a>> for Fault<'a> {
     }
 }
 
+impl From<StubFault> for Fault<'_> {
+    fn from(fault: StubFault) -> Self {
+        match fault {
+            StubFault::Memory => Fault::Memory,
+            _ => Fault::Stub(fault),
+        }
+    }
+}
+
 impl<'a> From<Trouble<'a>> for Fault<'a> {
     fn from(trouble: Trouble<'a>) -> Self {
         match trouble {

@@ -3,12 +3,16 @@
 //! Each reads component files that may have shims, as the standard tool chain writes them.
 #![tactic(auto)]
 
+mod choosing;
 mod ending;
 mod fault;
 mod fault_objects;
 mod left_open;
 mod loading;
 mod making;
+mod providers;
+mod serve_words;
+mod serving;
 mod stop;
 mod streams;
 mod taking;
@@ -17,11 +21,12 @@ mod type_imports;
 
 pub use cm_bundle::Bundle;
 pub use cm_hux_json::{Object, ToValue, Value, event_object, line_of, signature_rows, type_text};
-pub use cm_stubs::{Component, StubFault, caller, caller_for, provider_for};
+pub use cm_match::{Choices, link_by};
+pub use cm_stubs::{Component, caller, provider_for};
 pub use cm_tool_commands::{
     Asked, Checked, Disk, Fault as ToolFault, FileFault, Files, LIMIT, Linked, Outcome, Unfit,
-    UnfitReason, Usage, checked_of, conform_component, link, read_file, signature, text_of,
-    words_of, world_of, write_plan,
+    UnfitReason, Usage, checked_of, conform_component, read_file, signature, text_of, words_of,
+    world_of, write_plan,
 };
 pub use cm_tool_help_texts::{Escaped, wit_help, world_help};
 pub use cm_tool_help_types::conform_help;
@@ -34,6 +39,8 @@ pub use loading::{
     Loaded, LoadedFiles, kept, load_bytes, load_file, load_files, of_file, read_bytes,
 };
 pub use making::{made, write_arguments};
+pub use providers::links_by_name;
+pub use serve_words::component_name;
 pub use stop::{Stop, told};
 pub use streams::{
     DiskStreams, Streams, create, refuse_to_overwrite, unwritten, write_file, write_whole,

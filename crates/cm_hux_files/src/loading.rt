@@ -6,14 +6,19 @@ ghost use Rattle.cm_validate_functions.specs.cm_validate_spaces.Checked.{section
 ghost use Rattle.cm_shims_plain.specs.Reading.{IsReadAs, outcome};
 ghost use Rattle.cm_shims.specs.Fitting.{AllHold};
 
+use crate::choosing::choosing_text;
 use crate::fault::Fault;
-use crate::taking::{PART_NAMES, bundle_in, check_links};
+use crate::serving::choices_of;
+use crate::taking::{PART_NAMES, bundle_in, check_links, choices_in};
 use cm_binary_forms::DecodeFault;
 use cm_binary_model::Component;
+use cm_hux_words::ServeWords;
+use cm_match::link_by;
+use cm_match_model::{Choices, LinkReason};
 use cm_shims::{Place, ShimFault, Shimmed, fits, read};
 use cm_tool_commands::{
     BadFile, Checked, Fault as ToolFault, FileReason, Files, LinkFault, Linked, MAX_COMPONENTS,
-    ValidFault, checked_of, link, read_file, signature,
+    ValidFault, checked_of, read_file, signature,
 };
 use cm_tool_help_texts::{bytes_help, valid_help};
 use cm_tool_help_types::link_help;
@@ -153,6 +158,8 @@ pub struct LoadedFiles<'a> {
     /// The bundle whose files they are, by its name and its bytes; none where they are files of
     /// their own.
     bundle: Option<(&'a str, Vec<u8>)>,
+    /// Which exports serve their imports.
+    serve: ServeWords<'a>,
 }
 
 /// These files, which are read in order, up to the first that cannot be, with its fault, where
@@ -168,6 +175,10 @@ pub fn load_files<'a, F: Files>(
         loaded: Vec::new(alloc),
         count: names.len(),
         bundle: None,
+        serve: ServeWords {
+            words: Vec::new(alloc),
+            nearest: false,
+        },
     };
     let read = match names {
         [name] => loaded.load_alone(alloc, files, name),
@@ -218,6 +229,15 @@ impl<'a> LoadedFiles<'a> {
             self.loaded.push(load_bytes(alloc, name, file)?)?;
         }
         Ok(true)
+    }
+
+    /// Has the files linked as these words say.
+    pub fn serve_by(&mut self, alloc: Global, words: &ServeWords<'a>) -> Result<(), AllocError> {
+        self.serve = ServeWords {
+            words: words.words.to_vec(alloc)?,
+            nearest: words.nearest,
+        };
+        Ok(())
     }
 
     /// The files, in order.
@@ -279,13 +299,27 @@ impl<'a> LoadedFiles<'a> {
         self.link_checked(alloc, self.check(alloc, unread)?)
     }
 
-    /// The linked set of the components. A bundle has to be that of its files as they are linked.
+    /// What is chosen of the links of the components: by a bundle, or by words.
+    pub fn choices(&self, alloc: Global, components: &[Checked<'_>]) -> Result<Choices, Fault<'a>> {
+        if let Some((name, bytes)) = &self.bundle {
+            return Ok(choices_in(alloc, name, bytes, components)?);
+        }
+        let mut names = Vec::with_capacity(alloc, self.loaded.len())?;
+        for file in &self.loaded {
+            names.push(file.name)?;
+        }
+        Ok(choices_of(alloc, &names, components, &self.serve)?)
+    }
+
+    /// The linked set of the components, as words say, or as the bundle links them, which has to be
+    /// that of its files as they are linked.
     pub fn link_checked<'b>(
         &'b self,
         alloc: Global,
         components: Vec<Checked<'b>>,
     ) -> Result<Linked<'b>, Fault<'a>> {
-        let linked = match link(alloc, components) {
+        let choices = self.choices(alloc, &components)?;
+        let linked = match link_by(alloc, components, choices) {
             Ok(linked) => linked,
             Err(fault) => {
                 return Err(Fault::Tool(ToolFault::Link {
@@ -308,9 +342,10 @@ impl<'a> LoadedFiles<'a> {
             let component = file.check(alloc)?;
             files.push((file.name, signature(alloc, component)?))?;
         }
-        match link_help(alloc, &files, fault) {
-            Ok(tail) => Ok(tail),
-            Err(_) => Ok(String::new(alloc)),
+        let mut tail = link_help(alloc, &files, fault)?;
+        if fault.reason == LinkReason::TwoProviders {
+            tail.push_str(choosing_text(alloc, &self.loaded, fault)?.as_str())?;
         }
+        Ok(tail)
     }
 }

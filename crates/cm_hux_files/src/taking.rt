@@ -1,9 +1,13 @@
 //! Files that are bundles.
 
 use crate::making::made;
+use crate::providers::{Provider, link_to, providers_of};
 use crate::trouble::Trouble;
-use cm_bundle::{Bundle, BundleReason, unbundle};
+use cm_bundle::{Bundle, BundleReason, Part, Supply, unbundle};
 use cm_match::{Linked, MAX_COMPONENTS};
+use cm_match_model::{Choices, Link};
+use cm_match_serving::Checked;
+use cm_types_arena::Extern;
 use std::alloc::{AllocError, Global};
 
 /// The names of the parts of a bundle, from the first on: one more than a set may have.
@@ -32,6 +36,48 @@ pub(crate) fn bundle_in(alloc: Global, bytes: &[u8]) -> Result<Option<Bundle<'_>
         Err(fault) if fault.reason == BundleReason::Memory => Err(AllocError),
         Err(_) => Ok(None),
     }
+}
+
+/// What a bundle, whose bytes these are, chooses of the links of its files: each argument is the
+/// link of the import of its name.
+pub(crate) fn choices_in<'a>(
+    alloc: Global,
+    name: &'a str,
+    bytes: &[u8],
+    components: &[Checked<'_>],
+) -> Result<Choices, Trouble<'a>> {
+    let bundle = read_bundle(alloc, name, bytes)?;
+    let providers = providers_of(alloc, components)?;
+    let mut choices = Choices::none(alloc);
+    for (component, part) in components.iter().zip(&bundle.parts) {
+        choices
+            .links
+            .push(part_links(alloc, &providers, component.imports(), part)?)?;
+    }
+    Ok(choices)
+}
+
+/// The links of the imports of a part, which its arguments are, in their order.
+fn part_links(
+    alloc: Global,
+    providers: &[Provider],
+    imports: &[Extern],
+    part: &Part<'_>,
+) -> Result<Vec<Option<Link>>, AllocError> {
+    let mut row = Vec::with_capacity(alloc, imports.len())?;
+    for (import, argument) in imports.iter().zip(&part.arguments) {
+        row.push(argument_link(providers, import, argument))?;
+    }
+    Ok(row)
+}
+
+/// The link that an argument is, if it is that of this import.
+fn argument_link(providers: &[Provider], import: &Extern, argument: &Supply<'_>) -> Option<Link> {
+    if argument.name != import.name.as_str() {
+        return None;
+    }
+    let provider = providers.get(argument.export.part)?;
+    link_to(provider.named(argument.export.name))
 }
 
 /// Refuses a bundle, whose bytes these are, that is not made of its files as they are linked.

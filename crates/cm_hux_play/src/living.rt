@@ -34,7 +34,8 @@ pub fn run_live<'a, F: Files, S: Streams, O: Write, E: Write>(
 ) -> Result<Ending, Fault<'a>> {
     check_words(alloc, words, habits)?;
     let limit = limit_of(alloc, words.limit)?;
-    let (loaded, unread) = load_files(alloc, files, &words.files);
+    let (mut loaded, unread) = load_files(alloc, files, &words.files);
+    loaded.serve_by(alloc, &words.serve)?;
     let linked = loaded.link(alloc, unread)?;
     let live = Live {
         alloc,

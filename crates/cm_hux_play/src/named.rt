@@ -1,7 +1,6 @@
 //! The names of components.
 
-use cm_hux_drive::files::LoadedFiles;
-use cm_hux_said::component_name;
+use cm_hux_drive::files::{LoadedFiles, component_name};
 use std::alloc::{AllocError, Global};
 
 /// The names of the components of files.

@@ -24,7 +24,8 @@ pub fn run_play<'a, F: Files, O: Write, E: Write>(
     err: &mut E,
 ) -> Result<Ending, Fault<'a>> {
     let form = form_of(alloc, words)?;
-    let (loaded, unread) = load_files(alloc, files, &words.files);
+    let (mut loaded, unread) = load_files(alloc, files, &words.files);
+    loaded.serve_by(alloc, &words.serve)?;
     let linked = loaded.link(alloc, unread)?;
     let script = script_of(alloc, words.script, &linked, files)?;
     let wanted = Wanted { form, habits };

@@ -17,6 +17,6 @@ mod wording;
 pub use bounded::MAX_WORDS;
 pub use cm_match::Linked;
 pub use cm_tool_help_texts::is_hidden;
-pub use lines::{Participant, component_name, write_message};
+pub use lines::{Participant, write_message};
 pub use messages::{Message, Spoken, Trapping};
 pub use watch::{Actor, Watch};

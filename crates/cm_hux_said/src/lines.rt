@@ -5,15 +5,6 @@ use cm_tool_help_texts::Escaped;
 use std::io::Write;
 use std::{fmt, io};
 
-/// What a component is called: the name of its file without folder and `.wasm`.
-pub fn component_name(file: &str) -> &str {
-    let name = match file.rsplit_once('/') {
-        Some((_, name)) => name,
-        None => file,
-    };
-    name.strip_suffix(".wasm").unwrap_or(name)
-}
-
 /// An instance by its number and the name of its component, as `1 user`; by its number alone where
 /// no name is known.
 #[derive(Clone, Copy)]

@@ -9,6 +9,15 @@ pub struct ConformWords<'a> {
     pub file: &'a str,
 }
 
+/// `[--serve IMPORT=PROVIDER].. [--nearest]`
+#[derive(Drop)]
+pub struct ServeWords<'a> {
+    /// The words behind `--serve`.
+    pub words: Vec<&'a str>,
+    /// Whether the last component that exports what fits serves an import.
+    pub nearest: bool,
+}
+
 /// `link FILE.. [-o OUT [--export I]] [--mermaid]`
 #[derive(Drop)]
 pub struct LinkWords<'a> {
@@ -19,6 +28,7 @@ pub struct LinkWords<'a> {
     pub export: Option<&'a str>,
     /// Whether a graph is printed.
     pub mermaid: bool,
+    pub serve: ServeWords<'a>,
 }
 
 /// `plug --plug PROVIDER.. SOCKET [-o OUT]`
@@ -28,6 +38,7 @@ pub struct PlugWords<'a> {
     pub files: Vec<&'a str>,
     /// The file that the set is written to.
     pub out: Option<&'a str>,
+    pub serve: ServeWords<'a>,
 }
 
 /// `play --script S FILE.. [--values] [--mermaid [--messages N]]`
@@ -41,6 +52,7 @@ pub struct PlayWords<'a> {
     pub mermaid: bool,
     /// The most messages of the diagram.
     pub messages: Option<&'a str>,
+    pub serve: ServeWords<'a>,
 }
 
 /// `call [--script S] FILE.. CALL`
@@ -49,6 +61,7 @@ pub struct CallWords<'a> {
     pub script: Option<&'a str>,
     pub files: Vec<&'a str>,
     pub call: &'a str,
+    pub serve: ServeWords<'a>,
 }
 
 /// `live FILE.. [--record SCRIPT] [--limit N] [--pages N,N,..] [--values]`
@@ -60,6 +73,7 @@ pub struct LiveWords<'a> {
     pub pages: Option<&'a str>,
     /// Whether calls and their values are written to standard error.
     pub values: bool,
+    pub serve: ServeWords<'a>,
 }
 
 /// `stub FILE.. -o OUT`, or `stub --caller FILE.. -o OUT`

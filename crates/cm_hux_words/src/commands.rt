@@ -85,6 +85,24 @@ const GRAPH: Word = Word {
     tie: Tie::Free,
 };
 
+const SERVE: Word = Word {
+    name: "serve",
+    value: "IMPORT=PROVIDER",
+    help: "Which file serves an import, or IMPORTER/IMPORT; may be given again",
+    form: Form::Choices,
+    letter: None,
+    tie: Tie::Free,
+};
+
+const NEAREST: Word = Word {
+    name: "nearest",
+    value: "",
+    help: "Of several files that fit the last one serves",
+    form: Form::Flag,
+    letter: None,
+    tie: Tie::Free,
+};
+
 const FOLDER: Word = Word {
     name: "out",
     value: "DIR",
@@ -327,13 +345,17 @@ prints
         about: "Links components: each imports from those before it",
         example: "With -o it writes them as one component that other runtimes read: a bundle. It has
 each file, byte for byte, and exports what the last one does, or the one that --export
-counts from 0.
+counts from 0; what the others export is hidden then.
+
+Where several files export what an import fits, --serve says which serves it, or
+PROVIDER/EXPORT. A file is named by its name without folder and .wasm, or by its
+number from 0. A word for one IMPORTER comes before the others, and these before --nearest.
 
 Example:
   hux link provider.wasm user.wasm -o set.wasm
 prints
   1 inc <- 0 inc",
-        words: &[FILES, BUNDLE, EXPORT, GRAPH],
+        words: &[FILES, BUNDLE, EXPORT, SERVE, NEAREST, GRAPH],
     },
     Described {
         name: "unbundle",
@@ -359,7 +381,7 @@ prints
   1 inc <- 0 inc
 or, where the provider does not export it,
   1 inc is open",
-        words: &[PLUGS, SOCKET, BUNDLE],
+        words: &[PLUGS, SOCKET, BUNDLE, SERVE],
     },
     Described {
         name: "play",
@@ -374,7 +396,7 @@ prints
 and with --values
   1 user -> 0 provider  inc(41)
   <- 42",
-        words: &[FILES, SCRIPT, VALUES, DIAGRAM, MESSAGES],
+        words: &[FILES, SCRIPT, SERVE, NEAREST, VALUES, DIAGRAM, MESSAGES],
     },
     Described {
         name: "call",
@@ -387,7 +409,7 @@ Example:
   hux call --script script provider.wasm 'inc(41)'
 prints
   42",
-        words: &[FILES, OTHERS, CALLED],
+        words: &[FILES, OTHERS, SERVE, NEAREST, CALLED],
     },
     Described {
         name: "live",
@@ -401,7 +423,9 @@ Example:
 prints, to the lines begin 1 and call 0 i32:41,
   resume 1
   enter 0 0 i32:41",
-        words: &[FILES, RECORD, LIMIT, PAGES, OVERHEARD, NO_TRAPS, NO_OBJECTS],
+        words: &[
+            FILES, SERVE, NEAREST, RECORD, LIMIT, PAGES, OVERHEARD, NO_TRAPS, NO_OBJECTS,
+        ],
     },
     Described {
         name: "stub",

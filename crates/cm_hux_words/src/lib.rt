@@ -8,7 +8,8 @@ mod request;
 mod words;
 
 pub use asked::{
-    CallWords, ConformWords, DiffWords, LinkWords, LiveWords, PlayWords, PlugWords, StubWords,
+    CallWords, ConformWords, DiffWords, LinkWords, LiveWords, PlayWords, PlugWords, ServeWords,
+    StubWords,
 };
 pub use program::VERSION;
 pub use request::{Answer, Habits, Request, WordsFault};

@@ -1,7 +1,8 @@
 //! What the words of the command line ask for.
 
 use crate::asked::{
-    CallWords, ConformWords, DiffWords, LinkWords, LiveWords, PlayWords, PlugWords, StubWords,
+    CallWords, ConformWords, DiffWords, LinkWords, LiveWords, PlayWords, PlugWords, ServeWords,
+    StubWords,
 };
 use crate::program::program;
 use clap::error::ErrorKind;
@@ -190,6 +191,7 @@ fn link<'a>(alloc: Global, found: &ArgMatches<'a>) -> Result<Request<'a>, WordsF
         out: found.get_str("out"),
         export: found.get_str("export"),
         mermaid: found.get_flag("mermaid"),
+        serve: serve_words(alloc, found)?,
     }))
 }
 
@@ -204,7 +206,12 @@ fn plug<'a>(alloc: Global, found: &ArgMatches<'a>) -> Result<Request<'a>, WordsF
     let mut files = values_of(alloc, found, "plug")?;
     files.push(socket)?;
     let out = found.get_str("out");
-    Ok(Request::Plug(PlugWords { files, out }))
+    let words = all_of(alloc, found, "serve")?;
+    let serve = ServeWords {
+        words,
+        nearest: true,
+    };
+    Ok(Request::Plug(PlugWords { files, out, serve }))
 }
 
 fn play<'a>(alloc: Global, found: &ArgMatches<'a>) -> Result<Request<'a>, WordsFault> {
@@ -216,6 +223,7 @@ fn play<'a>(alloc: Global, found: &ArgMatches<'a>) -> Result<Request<'a>, WordsF
         values: found.get_flag("values"),
         mermaid: found.get_flag("mermaid"),
         messages: found.get_str("messages"),
+        serve: serve_words(alloc, found)?,
     }))
 }
 
@@ -227,6 +235,7 @@ fn call<'a>(alloc: Global, found: &ArgMatches<'a>) -> Result<Request<'a>, WordsF
         script,
         files,
         call,
+        serve: serve_words(alloc, found)?,
     }))
 }
 
@@ -238,6 +247,7 @@ fn live<'a>(alloc: Global, found: &ArgMatches<'a>) -> Result<Request<'a>, WordsF
         limit: found.get_str("limit"),
         pages: found.get_str("pages"),
         values: found.get_flag("values"),
+        serve: serve_words(alloc, found)?,
     }))
 }
 
@@ -256,11 +266,23 @@ fn explain<'a>(alloc: Global, found: &ArgMatches<'a>) -> Result<Request<'a>, Wor
 fn diff<'a>(alloc: Global, found: &ArgMatches<'a>) -> Result<Request<'a>, WordsFault> {
     let old = value_of(alloc, found, "old")?;
     let new = value_of(alloc, found, "new")?;
-    let worlds = match found.get_strs("world") {
-        Some(worlds) => worlds.to_vec(alloc)?,
-        None => Vec::new(alloc),
-    };
+    let worlds = all_of(alloc, found, "world")?;
     Ok(Request::Diff(DiffWords { old, new, worlds }))
+}
+
+/// What is said of the links of files.
+fn serve_words<'a>(alloc: Global, found: &ArgMatches<'a>) -> Result<ServeWords<'a>, WordsFault> {
+    let words = all_of(alloc, found, "serve")?;
+    let nearest = found.get_flag("nearest");
+    Ok(ServeWords { words, nearest })
+}
+
+/// The values of an option, which may be none.
+fn all_of<'a>(alloc: Global, found: &ArgMatches<'a>, id: &str) -> Result<Vec<&'a str>, WordsFault> {
+    match found.get_strs(id) {
+        Some(values) => Ok(values.to_vec(alloc)?),
+        None => Ok(Vec::new(alloc)),
+    }
 }
 
 fn no_command(alloc: Global) -> WordsFault {

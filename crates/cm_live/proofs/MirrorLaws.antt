@@ -35,7 +35,7 @@ use Rattle.cm_machine.specs.cm_machine_laws.MemoryChanges.{ChangesAsTold, Change
 use Rattle.cm_machine.specs.cm_machine_laws.MemoryChanges.{ChangesAtEntry}
 use Rattle.cm_machine.specs.cm_machine_laws.MemoryChanges.{MemoryChangesByMovesAndValues, OthersStay}
 use Rattle.cm_machine.specs.cm_machine_laws.MemoryChanges.{SameMemories}
-use Rattle.cm_validate_model.specs.Spaces.{Spaces}
+use Rattle.cm_match_model.specs.Imports.{LinkSet}
 use Rattle.cm_machine.specs.cm_machine_laws.Closing.{TrapsAtACause}
 use Rattle.cm_machine.specs.cm_machine_laws.Doing.{after_move, after_post_return, body_return}
 use Rattle.cm_machine.specs.cm_machine_laws.Doing.{with_answer}
@@ -529,7 +529,7 @@ begin_plays old g i e new laws goes links k =
       below_calls = tt;
     }
 
-pub new_plays : (linked : List Spaces) (pages : List ℕ) (s : RunningSet) (g : GoingsOn)
+pub new_plays : (linked : LinkSet) (pages : List ℕ) (s : RunningSet) (g : GoingsOn)
     → IsNew linked pages s → calls g ≡ [] → g.asking ≡ None → rooms g ≡ [] → IsPlayed s g
 new_plays linked pages s g n c a r = record {
   plan = n.plan;

@@ -8,7 +8,7 @@ use Rattle.std.specs.Io.KnownBytes.{Consumes, IsAtEnd, Keeps}
 use Rattle.std.proofs.lemmas.Bool.{ltb-false, ltb-true}
 use Rattle.std.proofs.lemmas.List.{length_push}
 use Rattle.std.proofs.lemmas.List.Folds.{list_any-append}
-use Rattle.cm_validate_model.specs.Spaces.{Spaces}
+use Rattle.cm_match_model.specs.Imports.{LinkSet}
 use Rattle.cm_machine.specs.cm_machine_set.Running.{RunningSet}
 use Rattle.cm_tool_script.specs.declared.statement.Statement.TheVariants as statement
 use Rattle.cm_live.specs.declared.served.Served.{Served}
@@ -97,7 +97,7 @@ recording_more : (rec : Option Bool) (ls : List ServedLine) (l : ServedLine)
 recording_more rec [] l = refl
 recording_more rec (x ∷ ls) l = recording_more (recording_after rec x.reply) ls l
 
-do_more : (linked : List Spaces) (rec : Option Bool) (s t u : RunningSet) (ls : List ServedLine)
+do_more : (linked : LinkSet) (rec : Option Bool) (s t u : RunningSet) (ls : List ServedLine)
     (l : ServedLine) → LinesDo linked rec s ls t
     → LineDoes linked (recording_behind rec ls) t l.bytes l.reply u → IsAnswerOf u l.reply l.answer
     → LinesDo linked rec s (ls ++ l ∷ []) u
@@ -148,7 +148,7 @@ one_at_most (done (statement.Move m) a) = omega arith
 one_at_most (done (statement.Begin i) a) = omega arith
 
 -- So many lines were served so far, answered, and counted so.
-pub record SoFar (linked : List Spaces) (rec : Option Bool) (old : RunningSet) (limit : ℕ)
+pub record SoFar (linked : LinkSet) (rec : Option Bool) (old : RunningSet) (limit : ℕ)
     (known : Streams) (ls : List ServedLine) (new : RunningSet) (now : Option Bool)
     (left : Streams) (t : Tally) (count : ℕ) : Type 0 where
   pub leads : Leads linked rec old limit ls new
@@ -160,7 +160,7 @@ pub record SoFar (linked : List Spaces) (rec : Option Bool) (old : RunningSet) (
   pub count_is : length ls ≡ count
 
 -- What serving was until it stopped behind these lines.
-pub record Until (linked : List Spaces) (rec : Option Bool) (old : RunningSet) (limit : ℕ)
+pub record Until (linked : LinkSet) (rec : Option Bool) (old : RunningSet) (limit : ℕ)
     (known : Streams) (ls : List ServedLine) (new : RunningSet) (more : Option (List ℕ))
     : Type 0 where
   pub leads : Leads linked rec old limit ls new
@@ -180,23 +180,23 @@ abbrev line_of : List ℕ → Reply → List ℕ → ServedLine
 line_of bytes r answer = record { bytes = bytes; reply = r; answer = answer }
 
 -- a line that was read, and did this
-pub record IsOne (linked : List Spaces) (now : Option Bool) (s : RunningSet)
+pub record IsOne (linked : LinkSet) (now : Option Bool) (s : RunningSet)
     (left : Option (List ℕ)) (bytes : List ℕ) (r : Reply) (more : Option (List ℕ))
     (new : RunningSet) : Type 0 where
   pub next : IsNextLine left bytes more
   pub does : LineDoes linked now s bytes r new
 
-pub is_one : (linked here : List Spaces) (now : Option Bool) (s : RunningSet)
+pub is_one : (linked here : LinkSet) (now : Option Bool) (s : RunningSet)
     (left : Option (List ℕ)) (items bytes : List ℕ) (there : Bool) (r : Reply)
     (more : Option (List ℕ)) (new : RunningSet) → here ≡ linked → bytes ≡ items → there ≡ true
     → ReadsNext there left items more → LineDoes here now s bytes r new
     → IsOne linked now s left bytes r more new
 is_one linked here now s left items bytes there r more new e b h n d = record {
   next = next_line there left items bytes more b h n;
-  does = subst (λ (k : List Spaces). LineDoes k now s bytes r new) e d;
+  does = subst (λ (k : LinkSet). LineDoes k now s bytes r new) e d;
 }
 
-one_done : (linked : List Spaces) (rec : Option Bool) (old : RunningSet) (limit : ℕ)
+one_done : (linked : LinkSet) (rec : Option Bool) (old : RunningSet) (limit : ℕ)
     (known : Streams) (ls : List ServedLine) (s : RunningSet) (now : Option Bool)
     (left : Streams) (t : Tally) (count : ℕ) (l : ServedLine) (more : Option (List ℕ))
     (new : RunningSet)
@@ -217,7 +217,7 @@ one_done linked rec old limit known ls s now left t count l more new f b o a =
     }
 
 -- the same, of a line whose answer was not written
-pub one_cut : (linked : List Spaces) (rec : Option Bool) (old : RunningSet) (limit : ℕ)
+pub one_cut : (linked : LinkSet) (rec : Option Bool) (old : RunningSet) (limit : ℕ)
     (known : Streams) (ls : List ServedLine) (s : RunningSet) (now : Option Bool)
     (left : Streams) (t : Tally) (count : ℕ) (bytes : List ℕ) (r : Reply)
     (more : Option (List ℕ)) (new : RunningSet)
@@ -232,7 +232,7 @@ one_cut linked rec old limit known ls s now left t count bytes r more new f b o 
     )
 
 -- the same, of a line that was answered
-pub one_line : (linked : List Spaces) (rec : Option Bool) (old : RunningSet) (limit : ℕ)
+pub one_line : (linked : LinkSet) (rec : Option Bool) (old : RunningSet) (limit : ℕ)
     (known : Streams) (ls : List ServedLine) (s : RunningSet) (now : Option Bool)
     (left : Streams) (t : Tally) (count : ℕ) (bytes : List ℕ) (r : Reply) (after : Streams)
     (new : RunningSet) (u : Tally) (recorded : Option Bool) (mid : Option (List ℕ))
@@ -261,7 +261,7 @@ one_line linked rec old limit known ls s now left t count bytes r after new u re
       },
     )
 
-pub nothing_served : (linked : List Spaces) (rec : Option Bool) (s : RunningSet) (limit : ℕ)
+pub nothing_served : (linked : LinkSet) (rec : Option Bool) (s : RunningSet) (limit : ℕ)
     (known : Option (List ℕ))
     → Leads linked rec s limit [] s × AreReadAtLeast known [] known
 nothing_served linked rec s limit known = (
@@ -269,7 +269,7 @@ nothing_served linked rec s limit known = (
   read_whole known known [] (keeps_itself known),
 )
 
-pub nothing_so_far : (linked : List Spaces) (rec : Option Bool) (old : RunningSet) (limit : ℕ)
+pub nothing_so_far : (linked : LinkSet) (rec : Option Bool) (old : RunningSet) (limit : ℕ)
     (known : Streams) (t : Tally) → t.moves ≡ 0 → t.trapped ≡ false
     → SoFar linked rec old limit known [] old rec known t 0
 nothing_so_far linked rec old limit known t m n = record {
@@ -284,7 +284,7 @@ nothing_so_far linked rec old limit known t m n = record {
 
 -- ---- the end
 
-pub ends_so : (served : Served) (linked : List Spaces) (rec : Option Bool) (old : RunningSet)
+pub ends_so : (served : Served) (linked : LinkSet) (rec : Option Bool) (old : RunningSet)
     (limit : ℕ) (known : Streams) (ls : List ServedLine) (s : RunningSet) (now : Option Bool)
     (left : Streams) (t : Tally) (count : ℕ) (end : Option (List ℕ))
     → SoFar linked rec old limit known ls s now left t count → IsEndOf served t limit

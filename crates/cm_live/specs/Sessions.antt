@@ -1,12 +1,11 @@
 -- What a contract sees of a session.
-use Rattle.std.specs.Prelude.{List}
-use Rattle.cm_validate_model.specs.Spaces.{Spaces}
+use Rattle.cm_match_model.specs.Imports.{LinkSet}
 use Rattle.cm_machine.specs.cm_match.Linked.{set_in}
 use Rattle.cm_machine.specs.cm_machine_set.Running.{RunningSet}
 use Rattle.cm_live.specs.declared.session.Session.{Session}
 
--- the components that were linked, by their index spaces
-abbrev pub linked_of : Session → List Spaces
+-- the components that were linked, and what their imports see
+abbrev pub linked_of : Session → LinkSet
 linked_of s = set_in s.linked.now
 
 -- the set that is played

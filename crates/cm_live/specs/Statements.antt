@@ -1,6 +1,6 @@
 -- What a statement does to a set that is played, and why it is refused (this project's own choice).
-use Rattle.std.specs.Prelude.{◌≡◌, ◌⊎◌, ℕ, List, [], Some, true}
-use Rattle.cm_validate_model.specs.Spaces.{Spaces}
+use Rattle.std.specs.Prelude.{◌≡◌, ◌⊎◌, ℕ, [], Some, true}
+use Rattle.cm_match_model.specs.Imports.{LinkSet}
 use Rattle.cm_machine.specs.cm_machine_model.declared.event.Event.{Event}
 use Rattle.cm_machine.specs.cm_machine_model.declared.event.Event.TheVariants as event
 use Rattle.cm_machine.specs.cm_machine_model.declared.event.Misuse.{Misuse}
@@ -24,7 +24,7 @@ TellsOf (answer.Told written e) P = P e
 
 -- A statement does this to a set of what is linked: `pages` makes a new one, `begin` begins a root
 -- call, and a move is one of the instance that acts; each event is told.
-abbrev pub Does : List Spaces → RunningSet → Statement → Answer → RunningSet → Type 0
+abbrev pub Does : LinkSet → RunningSet → Statement → Answer → RunningSet → Type 0
 Does linked old (statement.Pages pages) a new =
     (a ≡ answer.Ready) × IsNew linked pages.items new
 Does linked old (statement.Guest i) a new = ⊥

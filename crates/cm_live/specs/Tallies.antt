@@ -1,6 +1,6 @@
 -- What a tally of served lines counts (this project's own choice).
 use Rattle.std.specs.Prelude.{◌≡◌, ◌+◌, ◌||◌, ◌<◌, ◌≤◌, ℕ, Bool, true, false, List, Option}
-use Rattle.cm_validate_model.specs.Spaces.{Spaces}
+use Rattle.cm_match_model.specs.Imports.{LinkSet}
 use Rattle.cm_machine.specs.cm_machine_set.Running.{RunningSet}
 use Rattle.cm_live.specs.declared.fault.LiveFault.{LiveFault}
 use Rattle.cm_live.specs.declared.served.Served.{Served}
@@ -28,7 +28,7 @@ IsFaultOf (refused s f) g = g ≡ f
 IsFaultOf (done s a) g = ⊥
 
 -- A line is refused for this reason: nothing has changed.
-abbrev pub IsRefusal : List Spaces → Option Bool → RunningSet → List ℕ → LiveFault → RunningSet
+abbrev pub IsRefusal : LinkSet → Option Bool → RunningSet → List ℕ → LiveFault → RunningSet
     → Type 0
 IsRefusal linked recording old bytes f new =
     (r : Reply) × IsFaultOf r f × LineDoes linked recording old bytes r new

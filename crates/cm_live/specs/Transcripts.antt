@@ -7,7 +7,7 @@ use Rattle.std.specs.Str.{IsUtf8}
 use Rattle.std.specs.List.{flat_map, list_any}
 use Rattle.std.specs.Io.BufRead.{take_through, drop_through, ends_with_byte}
 use Rattle.std.specs.Io.KnownBytes.{Appends, Consumes, Keeps}
-use Rattle.cm_validate_model.specs.Spaces.{Spaces}
+use Rattle.cm_match_model.specs.Imports.{LinkSet}
 use Rattle.cm_machine.specs.cm_machine_model.declared.event.Event.TheVariants as event
 use Rattle.cm_machine.specs.cm_machine_set.Running.{RunningSet}
 use Rattle.cm_tool_script.specs.declared.statement.Statement.{Statement}
@@ -74,7 +74,7 @@ IsOfNoRecord recording s f = (Admits recording s → ⊥) × (f ≡ fault.Record
 
 -- A line does this to a set of what is linked: what its statement does where that is done, and
 -- the answer tells whose memory was written; and nothing where it is refused.
-abbrev pub LineDoes : List Spaces → Option Bool → RunningSet → List ℕ → Reply → RunningSet → Type 0
+abbrev pub LineDoes : LinkSet → Option Bool → RunningSet → List ℕ → Reply → RunningSet → Type 0
 LineDoes linked recording old bytes (unread f) new = IsOfNoStatement bytes f × (new ≡ old)
 LineDoes linked recording old bytes (refused s f) new =
     IsLineOf bytes s × (IsRefusedFor old s f ⊎ IsOfNoRecord recording s f) × (new ≡ old)
@@ -99,7 +99,7 @@ IsAnswerOf now (done s a) bytes = bytes ≡ answer_lines now.state a
 IsAnswerOf now r bytes = IsErrorLine bytes
 
 -- Lines do this to a set, one after the other, each is answered so, and nothing else is done to it.
-abbrev pub LinesDo : List Spaces → Option Bool → RunningSet → List ServedLine → RunningSet → Type 0
+abbrev pub LinesDo : LinkSet → Option Bool → RunningSet → List ServedLine → RunningSet → Type 0
 LinesDo linked recording old [] new = new ≡ old
 LinesDo linked recording old (l ∷ ls) new =
     (mid : RunningSet) × LineDoes linked recording old l.bytes l.reply mid
@@ -174,7 +174,7 @@ streams input output = record { input = input; output = output }
 
 -- These lines lead from one set to another, and at most so many moves are in them: behind that many
 -- no line is read.
-pub record Leads (linked : List Spaces) (recording : Option Bool) (old : RunningSet) (limit : ℕ)
+pub record Leads (linked : LinkSet) (recording : Option Bool) (old : RunningSet) (limit : ℕ)
     (ls : List ServedLine) (new : RunningSet) : Type 0 where
   pub does : LinesDo linked recording old ls new
   pub few : moves_in ls ≤ limit
@@ -196,7 +196,7 @@ Ends served.Ended limit old ls new =
 -- Serving does this to a set and to streams: lines lead from the set to the new one, and they are
 -- what was read; and where there is no error, serving ended behind them, and what was written is
 -- this greeting and the answers to them.
-abbrev pub Serves : {E : Type 0} → List Spaces → Option Bool → ℕ → List ℕ → RunningSet → Streams
+abbrev pub Serves : {E : Type 0} → LinkSet → Option Bool → ℕ → List ℕ → RunningSet → Streams
     → Result Served E → RunningSet → Streams → Type 0
 Serves linked recording limit greeting old before r new after = (ls : List ServedLine)
     × Leads linked recording old limit ls new × AreReadAtLeast before.input ls after.input

@@ -40,7 +40,7 @@ impl Played {
     pub fn new(alloc: Global, linked: &Linked<'_>, pages: &[u32]) -> Result<Played, Misuse>
         ensures new { IfOk result (λ p. IsNew (set_in linked.now) pages.now p.set) }
         ensures bad_pages { IfErr result (λ m. (m ≡ Misuse.BadPages)
-            ↔ (are_page_counts (length (set_in linked.now)) pages.now ≡ false)) }
+            ↔ (are_page_counts (length (set_in linked.now).spaces) pages.now ≡ false)) }
         ensures only { IfErr result (λ m. (m ≡ Misuse.BadPages) ⊎ (m ≡ Misuse.Memory)) }
     {
         match Set::new(alloc, linked, pages) {

@@ -12,7 +12,7 @@ use Rattle.cm_validate_model.specs.Named.{IsCoreWhole, IsLiftWhole, IsResourceWh
 use Rattle.cm_validate_model.specs.Sources.{OfFunctions}
 use Rattle.cm_validate_model.specs.Spaces.{Spaces, spaces_of}
 use Rattle.cm_validate_model.specs.Valid.{IsValid}
-use Rattle.cm_match_model.specs.Imports.{links_of}
+use Rattle.cm_match_model.specs.Imports.{LinkSet, Sees, links_of, seen_by}
 use Rattle.cm_match_model.specs.Links.{CanBeLinked}
 use Rattle.cm_match_model.specs.Origins.{AreOrigins, LeadEarlier, Links, Table, definition_of, origin_of}
 use Rattle.cm_match_model.specs.Serving.{IsSameFunc}
@@ -35,34 +35,34 @@ found_in : (o : Option Target) (c : ℕ) → ∥ ((t : Target) × (o ≡ Some t)
 found_in None c h = absurd (∥∥₁_elim h nothing_prop (λ r. absurd (cc (r.1))))
 found_in (Some u) c h = (u, refl, ∥∥₁_elim h le_prop (λ r. subst (λ (t : Target). t.component < c) (sym (some_in r.1)) r.2))
 
-module _ (components : List (List SectionTree)) (merely : ∥ CanBeLinked (map spaces_of components) ∥₁) (valid : AllByRecursion IsValid components)
+module _ (components : List (List SectionTree)) (sees : Sees) (merely : ∥ CanBeLinked (seen_by sees (map spaces_of components)) ∥₁) (valid : AllByRecursion IsValid components)
     (as_imported : (sections : List SectionTree) → OfFunctions (IsAsImported (spaces_of sections)) (IsLoweredAsImported (spaces_of sections)) (spaces_of sections))
     (whole : (sections : List SectionTree) → IsValid sections → OfFunctions (IsLiftWhole (spaces_of sections)) (IsCoreWhole (spaces_of sections)) (spaces_of sections))
     (destructors : (sections : List SectionTree) → IsValid sections → AllByRecursion (IsResourceWhole (spaces_of sections)) (spaces_of sections).resources)
-    (reach : (components : List (List SectionTree)) → CanBeLinked (map spaces_of components)
+    (reach : (components : List (List SectionTree)) (sees : Sees) → CanBeLinked (seen_by sees (map spaces_of components))
     → (c import : ℕ) (s : Spaces) (item : Option ℕ) (f : FuncTy)
     → slice_get (map spaces_of components) c ≡ Some s → wanted_func s import item ≡ Some f
-    → (t : Target) × (targets_of (map spaces_of components) (links_of (map spaces_of components)) c import item ≡ Some t)
-    × (t.component < c) × IsSameFunc (map spaces_of components) c f t.component t.ty)
-    (lifts : (components : List (List SectionTree)) → AllByRecursion IsValid components
+    → (t : Target) × (targets_of (map spaces_of components) (links_of (seen_by sees (map spaces_of components))) c import item ≡ Some t)
+    × (t.component < c) × IsSameFunc (seen_by sees (map spaces_of components)) c f t.component t.ty)
+    (lifts : (components : List (List SectionTree)) (sees : Sees) → AllByRecursion IsValid components
     → (c import : ℕ) (item : Option ℕ) (t : Target)
-    → targets_of (map spaces_of components) (links_of (map spaces_of components)) c import item ≡ Some t
+    → targets_of (map spaces_of components) (links_of (seen_by sees (map spaces_of components))) c import item ≡ Some t
     → (s : Spaces) × (slice_get (map spaces_of components) t.component ≡ Some s) × IsLiftWhole s (lifted t.core_func t.ty t.options))
-    (lead : (set : List Spaces) → LeadEarlier (links_of set))
+    (lead : (set : LinkSet) → LeadEarlier (links_of set))
     (one : (set : List Spaces) (links : Links) → LeadEarlier links → AreOrigins set links (origin_of set links))
     (itself : (set : List Spaces) (links : Links) (table : Table) → AreOrigins set links table → (r : ResourceId) (destructor : Option ℕ)
     → definition_of set r ≡ Some (defined destructor) → table r ≡ Some r)
     (earlier : (set : List Spaces) (links : Links) → LeadEarlier links → (r origin : ResourceId) → origin_of set links r ≡ Some origin → origin.component ≤ r.component)
     (there : (set : List Spaces) (links : Links) (r : ResourceId) → is_some (definition_of set r) ≡ true → is_some (origin_of set links r) ≡ true)
   where
-    abbrev set : List Spaces
-    set = map spaces_of components
+    abbrev set : LinkSet
+    set = seen_by sees (map spaces_of components)
 
-    same_func : (c import : ℕ) (s : Spaces) (item : Option ℕ) (f : FuncTy) (t : Target) → slice_get set c ≡ Some s → wanted_func s import item ≡ Some f
-        → targets_of set (links_of set) c import item ≡ Some t → ∥ IsSameFunc set c f t.component t.ty ∥₁
+    same_func : (c import : ℕ) (s : Spaces) (item : Option ℕ) (f : FuncTy) (t : Target) → slice_get set.spaces c ≡ Some s → wanted_func s import item ≡ Some f
+        → targets_of set.spaces (links_of set) c import item ≡ Some t → ∥ IsSameFunc set c f t.component t.ty ∥₁
     same_func c import s item f t at wanted to =
         ∥∥₁_map merely (λ can.
-        let r = reach components can c import s item f at wanted in
+        let r = reach components sees can c import s item f at wanted in
         subst (λ (u : Target). IsSameFunc set c f u.component u.ty) (some_in (sym r.1 ∙ to)) r.3)
 
     pub known : Known set
@@ -72,11 +72,11 @@ module _ (components : List (List SectionTree)) (merely : ∥ CanBeLinked (map s
       wanted = λ c s at. let x = section_at components c s valid at in subst (λ (v : Spaces). AllByRecursion (IsLoweredAsImported v) v.core_funcs) x.2 (as_imported x.0).core_funcs;
       resources = λ c s at. let x = section_at components c s valid at in subst (λ (v : Spaces). AllByRecursion (IsResourceWhole v) v.resources) x.2 (destructors x.0 x.1);
       reach = λ c import s item f at wanted.
-          found_in (targets_of set (links_of set) c import item) c
-          (∥∥₁_map merely (λ can. let r = reach components can c import s item f at wanted in (r.0, r.1, r.2)));
+          found_in (targets_of set.spaces (links_of set) c import item) c
+          (∥∥₁_map merely (λ can. let r = reach components sees can c import s item f at wanted in (r.0, r.1, r.2)));
       same = same_func;
-      lifts = lifts components valid;
-      earlier = earlier set (links_of set) (lead set);
-      there = there set (links_of set);
-      itself = itself set (links_of set) (origin_of set (links_of set)) (one set (links_of set) (lead set));
+      lifts = lifts components sees valid;
+      earlier = earlier set.spaces (links_of set) (lead set);
+      there = there set.spaces (links_of set);
+      itself = itself set.spaces (links_of set) (origin_of set.spaces (links_of set)) (one set.spaces (links_of set) (lead set));
     }

@@ -23,7 +23,7 @@ use Rattle.cm_validate_model.specs.Imported.{IsLoweredAsImported, wanted_func}
 use Rattle.cm_validate_model.specs.Named.{AreOptionsThere, IsCoreWhole, IsGuestAt, IsLiftWhole, IsResourceWhole}
 use Rattle.cm_validate_model.specs.Options.{is_latin1, is_pointer, is_realloc, params_hold, params_need_memory, result_holds}
 use Rattle.cm_validate_model.specs.Spaces.{Spaces}
-use Rattle.cm_match_model.specs.Imports.{links_of}
+use Rattle.cm_match_model.specs.Imports.{LinkSet, links_of}
 use Rattle.cm_match_model.specs.Origins.{definition_of, origin_of, resource_of}
 use Rattle.cm_match_model.specs.Serving.{IsSameFunc, standing}
 use Rattle.cm_match_model.specs.Targets.{Target, targets_of}
@@ -40,20 +40,20 @@ use Rattle.cm_lemmas.proofs.Lists.{got_at}
 use Rattle.cm_lemmas.proofs.Options.{some_in, stepped, still_some}
 
 -- What is known of the components of a set that can be linked.
-pub record Known (set : List Spaces) : Type 0 where
-  pub few : length set ≤ 16
-  pub cores : (c : ℕ) (s : Spaces) → slice_get set c ≡ Some s → AllByRecursion (IsCoreWhole s) s.core_funcs
-  pub wanted : (c : ℕ) (s : Spaces) → slice_get set c ≡ Some s → AllByRecursion (IsLoweredAsImported s) s.core_funcs
-  pub resources : (c : ℕ) (s : Spaces) → slice_get set c ≡ Some s → AllByRecursion (IsResourceWhole s) s.resources
-  pub reach : (c import : ℕ) (s : Spaces) (item : Option ℕ) (f : FuncTy) → slice_get set c ≡ Some s → wanted_func s import item ≡ Some f
-      → (t : Target) × (targets_of set (links_of set) c import item ≡ Some t) × (t.component < c)
-  pub same : (c import : ℕ) (s : Spaces) (item : Option ℕ) (f : FuncTy) (t : Target) → slice_get set c ≡ Some s → wanted_func s import item ≡ Some f
-      → targets_of set (links_of set) c import item ≡ Some t → ∥ IsSameFunc set c f t.component t.ty ∥₁
-  pub lifts : (c import : ℕ) (item : Option ℕ) (t : Target) → targets_of set (links_of set) c import item ≡ Some t
-      → (s : Spaces) × (slice_get set t.component ≡ Some s) × IsLiftWhole s (lifted t.core_func t.ty t.options)
-  pub earlier : (r origin : ResourceId) → origin_of set (links_of set) r ≡ Some origin → origin.component ≤ r.component
-  pub there : (r : ResourceId) → is_some (definition_of set r) ≡ true → is_some (origin_of set (links_of set) r) ≡ true
-  pub itself : (r : ResourceId) (d : Option ℕ) → definition_of set r ≡ Some (defined d) → origin_of set (links_of set) r ≡ Some r
+pub record Known (set : LinkSet) : Type 0 where
+  pub few : length set.spaces ≤ 16
+  pub cores : (c : ℕ) (s : Spaces) → slice_get set.spaces c ≡ Some s → AllByRecursion (IsCoreWhole s) s.core_funcs
+  pub wanted : (c : ℕ) (s : Spaces) → slice_get set.spaces c ≡ Some s → AllByRecursion (IsLoweredAsImported s) s.core_funcs
+  pub resources : (c : ℕ) (s : Spaces) → slice_get set.spaces c ≡ Some s → AllByRecursion (IsResourceWhole s) s.resources
+  pub reach : (c import : ℕ) (s : Spaces) (item : Option ℕ) (f : FuncTy) → slice_get set.spaces c ≡ Some s → wanted_func s import item ≡ Some f
+      → (t : Target) × (targets_of set.spaces (links_of set) c import item ≡ Some t) × (t.component < c)
+  pub same : (c import : ℕ) (s : Spaces) (item : Option ℕ) (f : FuncTy) (t : Target) → slice_get set.spaces c ≡ Some s → wanted_func s import item ≡ Some f
+      → targets_of set.spaces (links_of set) c import item ≡ Some t → ∥ IsSameFunc set c f t.component t.ty ∥₁
+  pub lifts : (c import : ℕ) (item : Option ℕ) (t : Target) → targets_of set.spaces (links_of set) c import item ≡ Some t
+      → (s : Spaces) × (slice_get set.spaces t.component ≡ Some s) × IsLiftWhole s (lifted t.core_func t.ty t.options)
+  pub earlier : (r origin : ResourceId) → origin_of set.spaces (links_of set) r ≡ Some origin → origin.component ≤ r.component
+  pub there : (r : ResourceId) → is_some (definition_of set.spaces r) ≡ true → is_some (origin_of set.spaces (links_of set) r) ≡ true
+  pub itself : (r : ResourceId) (d : Option ℕ) → definition_of set.spaces r ≡ Some (defined d) → origin_of set.spaces (links_of set) r ≡ Some r
 
 -- ---- lists and options
 
@@ -98,31 +98,31 @@ result_stays test stays s f = by_result f.result
     by_result None = refl
     by_result (Some t) = stays s t
 
-module _ (set : List Spaces) (k : Known set) where
+module _ (set : LinkSet) (k : Known set) where
   -- ---- each core function stands for something
 
-  resource_there : (c n : ℕ) (s : Spaces) (r : ResourceDef) → slice_get set c ≡ Some s → slice_get s.resources n ≡ Some r → definition_of set (resource_of c n) ≡ Some r
+  resource_there : (c n : ℕ) (s : Spaces) (r : ResourceDef) → slice_get set.spaces c ≡ Some s → slice_get s.resources n ≡ Some r → definition_of set.spaces (resource_of c n) ≡ Some r
   resource_there c n s r at e = ap (option_and_then (λ s. slice_get s.resources n)) at ∙ e
 
-  origin_some : (c n : ℕ) (s : Spaces) (r : ResourceDef) → slice_get set c ≡ Some s → slice_get s.resources n ≡ Some r → is_some (origin_in set c n) ≡ true
+  origin_some : (c n : ℕ) (s : Spaces) (r : ResourceDef) → slice_get set.spaces c ≡ Some s → slice_get s.resources n ≡ Some r → is_some (origin_in set c n) ≡ true
   origin_some c n s r at e = k.there (resource_of c n) (ap is_some (resource_there c n s r at e))
 
-  core_stands : (c : ℕ) (s : Spaces) (d : CoreFuncDef) → slice_get set c ≡ Some s → IsCoreWhole s d → IsLoweredAsImported s d → is_some (core_func_of set c d) ≡ true
+  core_stands : (c : ℕ) (s : Spaces) (d : CoreFuncDef) → slice_get set.spaces c ≡ Some s → IsCoreWhole s d → IsLoweredAsImported s d → is_some (core_func_of set c d) ≡ true
   core_stands c s (guest e) at whole wanted = refl
   core_stands c s (lowered import item ty os) at whole wanted =
-      still_some (λ t. plan.lowered (link_to set os t)) (targets_of set (links_of set) c import item) (ap is_some (k.reach c import s item ty at wanted).1)
+      still_some (λ t. plan.lowered (link_to set os t)) (targets_of set.spaces (links_of set) c import item) (ap is_some (k.reach c import s item ty at wanted).1)
   core_stands c s (making n) at whole wanted = still_some plan.makes (origin_in set c n) (origin_some c n s (defined whole.0) at whole.1)
   core_stands c s (dropping n) at whole wanted = still_some (λ r. plan.drops r (destructor_of set r)) (origin_in set c n) (origin_some c n s whole.0 at whole.1)
   core_stands c s (reading n) at whole wanted = still_some plan.represents (origin_in set c n) (origin_some c n s (defined whole.0) at whole.1)
 
-  pub each : EachStands set 0 set
-  each = all_from set 0 set (λ i m s e at.
-      let there : slice_get set m ≡ Some s = subst (λ n. slice_get set n ≡ Some s) (omega (arith, e)) at in
+  pub each : EachStands set 0 set.spaces
+  each = all_from set 0 set.spaces (λ i m s e at.
+      let there : slice_get set.spaces m ≡ Some s = subst (λ n. slice_get set.spaces n ≡ Some s) (omega (arith, e)) at in
       both (IsCoreWhole s) (IsLoweredAsImported s) (λ d. is_some (core_func_of set m d) ≡ true) (λ d. core_stands m s d there) s.core_funcs (k.cores m s there) (k.wanted m s there))
 
   pub is_plan_of : IsPlanOf set (plan_of set)
   is_plan_of = record {
-    instances = as_many set 0 set;
+    instances = as_many set 0 set.spaces;
     core_funcs = λ c f. planned_at set c f each;
     each = λ c f d at. each_stands set c f d each at;
   }
@@ -131,27 +131,27 @@ module _ (set : List Spaces) (k : Known set) where
 
   pub one_type : HaveOneType set
   one_type c f import item ty os t at to =
-      let s = stepped (slice_get set c) (λ s. slice_get s.core_funcs f) (lowered import item ty os) at in
+      let s = stepped (slice_get set.spaces c) (λ s. slice_get s.core_funcs f) (lowered import item ty os) at in
       k.same c import s.0 item ty t s.1 (got_at (IsLoweredAsImported s.0) s.0.core_funcs f (lowered import item ty os) (k.wanted c s.0 s.1) s.2) to
 
   -- ---- guests
 
-  is_guest : (c f : ℕ) (s : Spaces) → slice_get set c ≡ Some s → IsGuestAt s f → IsGuest (plan_of set) c f
+  is_guest : (c f : ℕ) (s : Spaces) → slice_get set.spaces c ≡ Some s → IsGuestAt s f → IsGuest (plan_of set) c f
   is_guest c f s at g =
       planned_at set c f each
       ∙ ap (option_and_then (core_func_of set c)) (ap (option_and_then (λ s. slice_get s.core_funcs f)) at ∙ g.1)
 
-  realloc_is_guest : (c : ℕ) (s : Spaces) (os : List CanonOption) (o : Option ℕ) → slice_get set c ≡ Some s → AreOptionsThere s os → first_in realloc_in os ≡ o → IsGuestIfAny (plan_of set) c o
+  realloc_is_guest : (c : ℕ) (s : Spaces) (os : List CanonOption) (o : Option ℕ) → slice_get set.spaces c ≡ Some s → AreOptionsThere s os → first_in realloc_in os ≡ o → IsGuestIfAny (plan_of set) c o
   realloc_is_guest c s os None at there e = tt
   realloc_is_guest c s os (Some f) at there e = is_guest c f s at (realloc_guest s os f there e)
 
-  post_return_is_guest : (c : ℕ) (s : Spaces) (os : List CanonOption) (o : Option ℕ) → slice_get set c ≡ Some s → AreOptionsThere s os → first_in post_return_in os ≡ o → IsGuestIfAny (plan_of set) c o
+  post_return_is_guest : (c : ℕ) (s : Spaces) (os : List CanonOption) (o : Option ℕ) → slice_get set.spaces c ≡ Some s → AreOptionsThere s os → first_in post_return_in os ≡ o → IsGuestIfAny (plan_of set) c o
   post_return_is_guest c s os None at there e = tt
   post_return_is_guest c s os (Some f) at there e = is_guest c f s at (post_return_guest s os f there e)
 
   -- ---- destructors
 
-  destructor_by : (r : ResourceId) (s : Spaces) (d : ResourceDef) (o : Option ℕ) → slice_get set r.component ≡ Some s → IsResourceWhole s d → destructor_in d ≡ o → IsGuestIfAny (plan_of set) r.component o
+  destructor_by : (r : ResourceId) (s : Spaces) (d : ResourceDef) (o : Option ℕ) → slice_get set.spaces r.component ≡ Some s → IsResourceWhole s d → destructor_in d ≡ o → IsGuestIfAny (plan_of set) r.component o
   destructor_by r s d None at whole e = tt
   destructor_by r s (defined None) (Some f) at whole e = cc e
   destructor_by r s (defined (Some g)) (Some f) at whole e = is_guest r.component f s at (subst (IsGuestAt s) (some_in e) whole)
@@ -160,13 +160,13 @@ module _ (set : List Spaces) (k : Known set) where
   destructor_runs : (r : ResourceId) (o : Option ℕ) → destructor_of set r ≡ o → IsGuestIfAny (plan_of set) r.component o
   destructor_runs r None e = tt
   destructor_runs r (Some f) e =
-      let d = stepped (definition_of set r) destructor_in f e in
-      let s = stepped (slice_get set r.component) (λ s. slice_get s.resources r.number) d.0 d.1 in
+      let d = stepped (definition_of set.spaces r) destructor_in f e in
+      let s = stepped (slice_get set.spaces r.component) (λ s. slice_get s.resources r.number) d.0 d.1 in
       destructor_by r s.0 d.0 (Some f) s.1 (got_at (IsResourceWhole s.0) s.0.resources r.number d.0 (k.resources r.component s.0 s.1) s.2) d.2
 
   -- ---- resources
 
-  made_here : (c n : ℕ) (s : Spaces) (d : Option ℕ) (r : ResourceId) → slice_get set c ≡ Some s → slice_get s.resources n ≡ Some (defined d) → origin_in set c n ≡ Some r → r.component ≡ c
+  made_here : (c n : ℕ) (s : Spaces) (d : Option ℕ) (r : ResourceId) → slice_get set.spaces c ≡ Some s → slice_get s.resources n ≡ Some (defined d) → origin_in set c n ≡ Some r → r.component ≡ c
   made_here c n s d r at e o = ap (λ q. q.component) (some_in (sym o ∙ k.itself (resource_of c n) d (resource_there c n s (defined d) at e)))
 
   -- ---- links
@@ -174,7 +174,7 @@ module _ (set : List Spaces) (k : Known set) where
   module _ (strings : Stays is_string) (borrows : Stays is_borrow) (pointers : Stays is_pointer) (flat : (s : Standing) (t : Ty) → flat_of (replaced s t) ≡ flat_of t) where
     -- a test of the result is the same on both sides
     same_result : (test : Ty → Bool) → Stays test → (c import : ℕ) (s : Spaces) (item : Option ℕ) (ty : FuncTy) (os : List CanonOption) (t : Target)
-        → slice_get set c ≡ Some s → wanted_func s import item ≡ Some ty → targets_of set (links_of set) c import item ≡ Some t
+        → slice_get set.spaces c ≡ Some s → wanted_func s import item ≡ Some ty → targets_of set.spaces (links_of set) c import item ≡ Some t
         → result_holds test ty ≡ result_holds test (link_to set os t).type
     same_result test stays c import s item ty os t at wanted to =
         ∥∥₁_elim (k.same c import s item ty t at wanted to) (Bool-set _ _)
@@ -185,12 +185,12 @@ module _ (set : List Spaces) (k : Known set) where
     results_stored_by os o (inr none) = inr (no_strings (one_field o) (result_hold is_string o ∙ none))
 
     module _ (c import : ℕ) (s : Spaces) (item : Option ℕ) (ty : FuncTy) (os : List CanonOption) (t : Target)
-        (at : slice_get set c ≡ Some s) (wanted : wanted_func s import item ≡ Some ty) (to : targets_of set (links_of set) c import item ≡ Some t)
+        (at : slice_get set.spaces c ≡ Some s) (wanted : wanted_func s import item ≡ Some ty) (to : targets_of set.spaces (links_of set) c import item ≡ Some t)
         (whole : IsCoreWhole s (lowered import item ty os)) (earlier : t.component < c) (spelled : IsSpelled (link_to set os t).type) where
       abbrev l : Link
       l = link_to set os t
 
-      abbrev there : (u : Spaces) × (slice_get set t.component ≡ Some u) × IsLiftWhole u (lifted t.core_func t.ty t.options)
+      abbrev there : (u : Spaces) × (slice_get set.spaces t.component ≡ Some u) × IsLiftWhole u (lifted t.core_func t.ty t.options)
       there = k.lifts c import item t to
 
       params_by : (list_any is_latin1 t.options ≡ false) ⊎ (params_hold is_string t.ty ≡ false) → CanStore (encoding_of t.options) l.type.params
@@ -269,7 +269,7 @@ module _ (set : List Spaces) (k : Known set) where
     -- ---- the plan
 
     module _ (spelled : (c f : ℕ) (d : CoreFuncDef) (p : CoreFunc) → core_def_in set c f ≡ Some d → core_func_of set c d ≡ Some p → IsCoreSpelled p) where
-      core_is : (c f : ℕ) (s : Spaces) (d : CoreFuncDef) (p : CoreFunc) → slice_get set c ≡ Some s → slice_get s.core_funcs f ≡ Some d → core_def_in set c f ≡ Some d
+      core_is : (c f : ℕ) (s : Spaces) (d : CoreFuncDef) (p : CoreFunc) → slice_get set.spaces c ≡ Some s → slice_get s.core_funcs f ≡ Some d → core_def_in set c f ≡ Some d
           → core_func_of set c d ≡ Some p → IsCoreFunc (plan_of set) c p
       core_is c f s (guest e) p at is here stands = subst (IsCoreFunc (plan_of set) c) (some_in stands) tt
       core_is c f s (lowered import item ty os) p at is here stands =
@@ -296,7 +296,7 @@ module _ (set : List Spaces) (k : Known set) where
 
       drops_own : (c : ℕ) (d : CoreFuncDef) (r : ResourceId) (o : Option ℕ) → core_func_of set c d ≡ Some (plan.drops r o) → o ≡ destructor_of set r
       drops_own c (guest e) r o at = cc at
-      drops_own c (lowered import item ty os) r o at = let t = mapped (λ t. plan.lowered (link_to set os t)) (targets_of set (links_of set) c import item) (plan.drops r o) at in cc (t.2)
+      drops_own c (lowered import item ty os) r o at = let t = mapped (λ t. plan.lowered (link_to set os t)) (targets_of set.spaces (links_of set) c import item) (plan.drops r o) at in cc (t.2)
       drops_own c (making n) r o at = let q = mapped plan.makes (origin_in set c n) (plan.drops r o) at in cc (q.2)
       drops_own c (dropping n) r o at =
           let q = mapped (λ r. plan.drops r (destructor_of set r)) (origin_in set c n) (plan.drops r o) at in
@@ -307,10 +307,10 @@ module _ (set : List Spaces) (k : Known set) where
 
       pub is_plan : IsPlan (plan_of set)
       is_plan = record {
-        few = omega (arith, k.few, as_many set 0 set);
+        few = omega (arith, k.few, as_many set 0 set.spaces);
         core_funcs = λ c f p at.
             let d = stands_at c f p at in
-            let s = stepped (slice_get set c) (λ s. slice_get s.core_funcs f) d.0 d.1 in
+            let s = stepped (slice_get set.spaces c) (λ s. slice_get s.core_funcs f) d.0 d.1 in
             core_is c f s.0 d.0 p s.1 s.2 d.1 d.2;
         one_destructor = λ i j f g r d e at to.
             let x = stands_at i f (plan.drops r d) at in

@@ -8,9 +8,9 @@ use Rattle.cm_types.specs.Spellable.{are_spellable, is_spellable, is_spellable_p
 use Rattle.cm_types.specs.Types.{Ty, Fields, FuncTy, field, no_fields}
 use Rattle.cm_types_arena.specs.Replaced.{Standing, replaced, replaced_fields, replaced_func}
 use Rattle.cm_binary_model.specs.declared.canons.CanonOption.{CanonOption}
-use Rattle.cm_validate_model.specs.Spaces.{Spaces}
 use Rattle.cm_validate_spaces.specs.Checked.{funcs_in}
 use Rattle.cm_validate_spaces.specs.declared.checked.Checked.{Checked}
+use Rattle.cm_match_model.specs.Imports.{LinkSet}
 use Rattle.cm_match_model.specs.Serving.{standing}
 use Rattle.cm_match_serving.specs.Sets.{funcs_at}
 use Rattle.cm_match_model.specs.Targets.{Target}
@@ -22,20 +22,20 @@ use Rattle.cm_machine_parts.specs.declared.link.CallTypes.{CallTypes}
 
 -- ---- places
 
-pub as_many_rows : (set : List Spaces) (c : ℕ) (cs : List Checked) (rows : List (List (Arc CallTypes Global))) → AreTypesOf set c cs rows → length rows ≡ length cs
+pub as_many_rows : (set : LinkSet) (c : ℕ) (cs : List Checked) (rows : List (List (Arc CallTypes Global))) → AreTypesOf set c cs rows → length rows ≡ length cs
 as_many_rows set c [] [] h = refl
 as_many_rows set c [] (r ∷ rows) h = absurd h
 as_many_rows set c (x ∷ cs) [] h = absurd h
 as_many_rows set c (x ∷ cs) (r ∷ rows) h = ap suc (as_many_rows set (c + 1) cs rows h.1)
 
-row_from : (set : List Spaces) (c : ℕ) (cs : List Checked) (rows : List (List (Arc CallTypes Global))) (k m : ℕ) → m ≡ c + k → AreTypesOf set c cs rows → AreCallTypes (standing set m) (funcs_at cs k) (get_or rows k [])
+row_from : (set : LinkSet) (c : ℕ) (cs : List Checked) (rows : List (List (Arc CallTypes Global))) (k m : ℕ) → m ≡ c + k → AreTypesOf set c cs rows → AreCallTypes (standing set m) (funcs_at cs k) (get_or rows k [])
 row_from set c [] [] k m e h = tt
 row_from set c [] (r ∷ rows) k m e h = absurd h
 row_from set c (x ∷ cs) [] k m e h = absurd h
 row_from set c (x ∷ cs) (r ∷ rows) zero m e h = let same : c ≡ m = omega (arith, e) in subst (λ n. AreCallTypes (standing set n) (funcs_in x) r) same h.0
 row_from set c (x ∷ cs) (r ∷ rows) (suc k) m e h = row_from set (c + 1) cs rows k m (omega (arith, e)) h.1
 
-pub row_at : (set : List Spaces) (cs : List Checked) (rows : List (List (Arc CallTypes Global))) (k : ℕ) → AreTypesOf set 0 cs rows → AreCallTypes (standing set k) (funcs_at cs k) (get_or rows k [])
+pub row_at : (set : LinkSet) (cs : List Checked) (rows : List (List (Arc CallTypes Global))) (k : ℕ) → AreTypesOf set 0 cs rows → AreCallTypes (standing set k) (funcs_at cs k) (get_or rows k [])
 row_at set cs rows k h = row_from set 0 cs rows k k (omega arith) h
 
 -- a component whose functions have types is one of so many
@@ -66,11 +66,11 @@ mapped_row [] k v lt is = absurd (omega (arith, lt))
 mapped_row (t ∷ types) zero v lt is = ap (λ (r : Vec (Arc CallTypes Global) Global). r.items) (sym is)
 mapped_row (t ∷ types) (suc k) v lt is = mapped_row types k v (omega (arith, lt)) is
 
-pub rows_there : (set : List Spaces) (cs : List Checked) (types : Rows) (k place : ℕ) → AreTypesOf set 0 cs (map (λ r. r.items) types) → place < length (funcs_at cs k) → k < length types
+pub rows_there : (set : LinkSet) (cs : List Checked) (types : Rows) (k place : ℕ) → AreTypesOf set 0 cs (map (λ r. r.items) types) → place < length (funcs_at cs k) → k < length types
 rows_there set cs types k place known there =
     omega (arith, as_many_rows set 0 cs (map (λ r. r.items) types) known, length-map types (λ (r : Vec (Arc CallTypes Global) Global). r.items), is_component cs k place there)
 
-pub row_of : (set : List Spaces) (cs : List Checked) (types : Rows) (k place : ℕ) (v : Vec (Arc CallTypes Global) Global) → AreTypesOf set 0 cs (map (λ r. r.items) types) → place < length (funcs_at cs k)
+pub row_of : (set : LinkSet) (cs : List Checked) (types : Rows) (k place : ℕ) (v : Vec (Arc CallTypes Global) Global) → AreTypesOf set 0 cs (map (λ r. r.items) types) → place < length (funcs_at cs k)
     → v ≡ get_or types k v → AreCallTypes (standing set k) (funcs_at cs k) v.items
 row_of set cs types k place v known there is =
     subst (AreCallTypes (standing set k) (funcs_at cs k)) (mapped_row types k v (rows_there set cs types k place known there) is) (row_at set cs (map (λ r. r.items) types) k known)
@@ -94,7 +94,7 @@ spelled_still same s f h = (fields_spelled same s f.params ∙ h.0, payload_spel
 -- ---- a link
 
 -- a link of the code stands for that of a lower to this lift
-pub link_is : (set : List Spaces) (os : List CanonOption) (t : Target) (k : Link)
+pub link_is : (set : LinkSet) (os : List CanonOption) (t : Target) (k : Link)
     → ((s : Standing) (t : Ty) → is_spellable (replaced s t) ≡ is_spellable t)
     → k.instance ≡ t.component → k.func ≡ t.core_func → k.post_return ≡ first_in post_return_in t.options → side_in k.caller ≡ side_of os → side_in k.callee ≡ side_of t.options
     → IsCallTypes (standing set t.component) t.ty k.types.value → IsSpelled t.ty

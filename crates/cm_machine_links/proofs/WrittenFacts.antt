@@ -21,7 +21,7 @@ use Rattle.cm_validate_model.specs.Spaces.{Spaces, empty_spaces, next_resource, 
 use Rattle.cm_validate_model.specs.TypeRules.{has_sort}
 use Rattle.cm_validate_model.specs.Valid.{IsValid, IsValidFrom}
 use Rattle.cm_validate_model.specs.declared.sorts.TypeSort.TheVariants as sort
-use Rattle.cm_match_model.specs.Imports.{links_of}
+use Rattle.cm_match_model.specs.Imports.{LinkSet, Sees, links_of, seen_by}
 use Rattle.cm_match_model.specs.Origins.{AreOrigins, LeadEarlier, Links, Table, definition_of, origin_of, resource_of}
 use Rattle.cm_match_model.specs.Targets.{Target, targets_of}
 use Rattle.cm_machine_model.specs.Plan as plan
@@ -251,26 +251,26 @@ some_of : {A : Type 0} (o : Option A) → is_some o ≡ true → (x : A) × (o �
 some_of None h = cc h
 some_of (Some x) h = (x, refl)
 
-module _ (components : List (List SectionTree)) (valid : AllByRecursion IsValid components)
+module _ (components : List (List SectionTree)) (sees : Sees) (valid : AllByRecursion IsValid components)
     (added : (sections : List SectionTree) → OfFunctions (IsAdded (all_items sections)) (IsCoreAdded (all_items sections)) (spaces_of sections))
     (whole : (sections : List SectionTree) → IsValid sections → OfFunctions (IsLiftWhole (spaces_of sections)) (IsCoreWhole (spaces_of sections)) (spaces_of sections))
     (as_defined : (sections : List SectionTree) (s : Spaces) (d : Option ℕ) → IsItemAt (all_items sections) s (type_item (resource_def d))
     → slice_get (spaces_of sections).resources (next_resource s) ≡ Some (defined d))
-    (lead : (set : List Spaces) → LeadEarlier (links_of set))
+    (lead : (set : LinkSet) → LeadEarlier (links_of set))
     (one : (set : List Spaces) (links : Links) → LeadEarlier links → AreOrigins set links (origin_of set links))
     (itself : (set : List Spaces) (links : Links) (table : Table) → AreOrigins set links table → (r : ResourceId) (d : Option ℕ)
     → definition_of set r ≡ Some (defined d) → table r ≡ Some r)
-    (lifts : (components : List (List SectionTree)) (c import : ℕ) (item : Option ℕ) (t : Target)
-    → targets_of (map spaces_of components) (links_of (map spaces_of components)) c import item ≡ Some t
+    (lifts : (components : List (List SectionTree)) (sees : Sees) (c import : ℕ) (item : Option ℕ) (t : Target)
+    → targets_of (map spaces_of components) (links_of (seen_by sees (map spaces_of components))) c import item ≡ Some t
     → IsAdded (all_items (unwrap_or (slice_get components t.component) [])) (lifted t.core_func t.ty t.options))
   where
-    abbrev set : List Spaces
-    set = map spaces_of components
+    abbrev set : LinkSet
+    set = seen_by sees (map spaces_of components)
 
     abbrev core_funcs_at : ℕ → List CoreFuncDef
     core_funcs_at c = (spaces_of (sections_at components c)).core_funcs
 
-    defined_at : (c n : ℕ) → definition_of set (resource_of c n) ≡ slice_get (spaces_of (sections_at components c)).resources n
+    defined_at : (c n : ℕ) → definition_of set.spaces (resource_of c n) ≡ slice_get (spaces_of (sections_at components c)).resources n
     defined_at c n = at_index (λ (s : Spaces). s.resources) refl components c n
 
     core_def_at : (c f : ℕ) → core_def_in set c f ≡ slice_get (core_funcs_at c) f
@@ -284,13 +284,13 @@ module _ (components : List (List SectionTree)) (valid : AllByRecursion IsValid 
         got_at (IsCoreWhole (spaces_of (sections_at components c))) (core_funcs_at c) f d (whole (sections_at components c) (valid_at components c valid)).core_funcs at
 
     own_resource : (c n : ℕ) (d : Option ℕ) → slice_get (spaces_of (sections_at components c)).resources n ≡ Some (defined d) → origin_in set c n ≡ Some (resource_of c n)
-    own_resource c n d at = itself set (links_of set) (origin_of set (links_of set)) (one set (links_of set) (lead set)) (resource_of c n) d (defined_at c n ∙ at)
+    own_resource c n d at = itself set.spaces (links_of set) (origin_of set.spaces (links_of set)) (one set.spaces (links_of set) (lead set)) (resource_of c n) d (defined_at c n ∙ at)
 
     -- what a lower writes
     link_written : (c import : ℕ) (item : Option ℕ) (os : List CanonOption) (t : Target) → are_once os ≡ true
-        → targets_of set (links_of set) c import item ≡ Some t → IsLinkWritten components c import item os (link_to set os t)
+        → targets_of set.spaces (links_of set) c import item ≡ Some t → IsLinkWritten components sees c import item os (link_to set os t)
     link_written c import item os t once to =
-        let lift = lifts components c import item t to in
+        let lift = lifts components sees c import item t to in
         let lift_is : are_once t.options ≡ true =
         lift_once (items_at components t.component) (valid_at components t.component valid) (lifted t.core_func t.ty t.options) lift in
         record {
@@ -306,11 +306,11 @@ module _ (components : List (List SectionTree)) (valid : AllByRecursion IsValid 
         }
 
     -- what a drop writes
-    drop_written : (c n : ℕ) (r : ResourceId) → origin_in set c n ≡ Some r → IsDropWritten components c n r (destructor_of set r)
+    drop_written : (c n : ℕ) (r : ResourceId) → origin_in set c n ≡ Some r → IsDropWritten components sees c n r (destructor_of set r)
     drop_written c n r at = record {
       origin = at;
       destructor = λ s d item number.
-          let here : definition_of set r ≡ Some (defined d) =
+          let here : definition_of set.spaces r ≡ Some (defined d) =
           defined_at r.component r.number
           ∙ ap (λ k. slice_get (spaces_of (sections_at components r.component)).resources k) (sym number)
           ∙ as_defined (sections_at components r.component) s d item in
@@ -318,22 +318,22 @@ module _ (components : List (List SectionTree)) (valid : AllByRecursion IsValid 
     }
 
     is_written : (c f : ℕ) (d : CoreFuncDef) → slice_get (core_funcs_at c) f ≡ Some d → IsCoreWhole (spaces_of (sections_at components c)) d → IsLowerOnce d
-        → (x : CoreFunc) → core_func_of set c d ≡ Some x → IsCoreFuncWritten components c d x
-    is_written c f (guest e) at h once x is = subst (IsCoreFuncWritten components c (guest e)) (some_in is) tt
+        → (x : CoreFunc) → core_func_of set c d ≡ Some x → IsCoreFuncWritten components sees c d x
+    is_written c f (guest e) at h once x is = subst (IsCoreFuncWritten components sees c (guest e)) (some_in is) tt
     is_written c f (lowered import item ty os) at h once x is =
-        let t = mapped (λ t. plan.lowered (link_to set os t)) (targets_of set (links_of set) c import item) x is in
-        subst (IsCoreFuncWritten components c (lowered import item ty os)) t.2 (link_written c import item os t.0 once t.1)
+        let t = mapped (λ t. plan.lowered (link_to set os t)) (targets_of set.spaces (links_of set) c import item) x is in
+        subst (IsCoreFuncWritten components sees c (lowered import item ty os)) t.2 (link_written c import item os t.0 once t.1)
     is_written c f (making n) at h once x is =
         let r = mapped plan.makes (origin_in set c n) x is in
-        subst (IsCoreFuncWritten components c (making n)) r.2 (some_in (sym r.1 ∙ own_resource c n h.0 h.1))
+        subst (IsCoreFuncWritten components sees c (making n)) r.2 (some_in (sym r.1 ∙ own_resource c n h.0 h.1))
     is_written c f (dropping n) at h once x is =
         let r = mapped (λ r. plan.drops r (destructor_of set r)) (origin_in set c n) x is in
-        subst (IsCoreFuncWritten components c (dropping n)) r.2 (drop_written c n r.0 r.1)
+        subst (IsCoreFuncWritten components sees c (dropping n)) r.2 (drop_written c n r.0 r.1)
     is_written c f (reading n) at h once x is =
         let r = mapped plan.represents (origin_in set c n) x is in
-        subst (IsCoreFuncWritten components c (reading n)) r.2 (some_in (sym r.1 ∙ own_resource c n h.0 h.1))
+        subst (IsCoreFuncWritten components sees c (reading n)) r.2 (some_in (sym r.1 ∙ own_resource c n h.0 h.1))
 
-    pub written : (p : Plan) → IsPlanOf set p → IsPlanWritten components p
+    pub written : (p : Plan) → IsPlanOf set p → IsPlanWritten components sees p
     written p k = record {
       core_funcs = λ c f d at.
           let x = some_of (core_func_of set c d) (k.each c f d (core_def_at c f ∙ at)) in

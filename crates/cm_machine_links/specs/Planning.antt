@@ -12,8 +12,7 @@ use Rattle.cm_abi_model.specs.declared.encoding.StringEncoding.{StringEncoding}
 use Rattle.cm_abi_model.specs.declared.encoding.StringEncoding.TheVariants as encoding
 use Rattle.cm_validate_model.specs.Definitions.{CoreFuncDef, guest, lowered, making, dropping}
 use Rattle.cm_validate_model.specs.Definitions.{reading, ResourceDef, defined, brought}
-use Rattle.cm_validate_model.specs.Spaces.{Spaces}
-use Rattle.cm_match_model.specs.Imports.{links_of}
+use Rattle.cm_match_model.specs.Imports.{LinkSet, links_of}
 use Rattle.cm_match_model.specs.Origins.{definition_of, origin_of, resource_of}
 use Rattle.cm_match_model.specs.Serving.{standing}
 use Rattle.cm_match_model.specs.Targets.{Target, targets_of}
@@ -52,7 +51,7 @@ side_of os = record { encoding = encoding_of os; realloc = first_in realloc_in o
 -- ---- core functions
 
 -- the link of a function that is lowered with these options, and comes to this lift
-abbrev pub link_to : List Spaces → List CanonOption → Target → Link
+abbrev pub link_to : LinkSet → List CanonOption → Target → Link
 link_to set os t =
     record {
       type = replaced_func (standing set t.component) t.ty;
@@ -64,36 +63,36 @@ link_to set os t =
     }
 
 -- what the resource of this number of a component is in the end
-abbrev pub origin_in : List Spaces → ℕ → ℕ → Option ResourceId
-origin_in set c n = origin_of set (links_of set) (resource_of c n)
+abbrev pub origin_in : LinkSet → ℕ → ℕ → Option ResourceId
+origin_in set c n = origin_of set.spaces (links_of set) (resource_of c n)
 
 -- the destructor of a resource, if its component defines it with one
 abbrev pub destructor_in : ResourceDef → Option ℕ
 destructor_in (defined d) = d
 destructor_in (brought import item) = None
 
-abbrev pub destructor_of : List Spaces → ResourceId → Option ℕ
-destructor_of set r = option_and_then destructor_in (definition_of set r)
+abbrev pub destructor_of : LinkSet → ResourceId → Option ℕ
+destructor_of set r = option_and_then destructor_in (definition_of set.spaces r)
 
 -- what a core function of a component of the set stands for
-abbrev pub core_func_of : List Spaces → ℕ → CoreFuncDef → Option CoreFunc
+abbrev pub core_func_of : LinkSet → ℕ → CoreFuncDef → Option CoreFunc
 core_func_of set c (guest e) = Some plan.guest
 core_func_of set c (lowered import item ty os) =
     option_map (λ t. plan.lowered (link_to set os t))
-    (targets_of set (links_of set) c import item)
+    (targets_of set.spaces (links_of set) c import item)
 core_func_of set c (making n) = option_map plan.makes (origin_in set c n)
 core_func_of set c (dropping n) =
     option_map (λ r. plan.drops r (destructor_of set r)) (origin_in set c n)
 core_func_of set c (reading n) = option_map plan.represents (origin_in set c n)
 
 -- the core function of this index of a component
-abbrev pub core_def_in : List Spaces → ℕ → ℕ → Option CoreFuncDef
-core_def_in set c f = option_and_then (λ s. slice_get s.core_funcs f) (slice_get set c)
+abbrev pub core_def_in : LinkSet → ℕ → ℕ → Option CoreFuncDef
+core_def_in set c f = option_and_then (λ s. slice_get s.core_funcs f) (slice_get set.spaces c)
 
 -- The plan of a set has an instance for each component; each core function of it stands for
 -- something, and the plan has no others.
-pub record IsPlanOf (set : List Spaces) (p : Plan) : Type 0 where
-  pub instances : length p ≡ length set
+pub record IsPlanOf (set : LinkSet) (p : Plan) : Type 0 where
+  pub instances : length p ≡ length set.spaces
   pub core_funcs : (c f : ℕ)
       → core_func_at p c f ≡ option_and_then (core_func_of set c) (core_def_in set c f)
   pub each : (c f : ℕ) (d : CoreFuncDef) → core_def_in set c f ≡ Some d
@@ -101,9 +100,9 @@ pub record IsPlanOf (set : List Spaces) (p : Plan) : Type 0 where
 
 -- Both sides of each link have one type: the type of a function that a component lowers, and that
 -- of the lift that it comes to, each resource what it is in the end.
-abbrev pub HaveOneType : List Spaces → Type 0
+abbrev pub HaveOneType : LinkSet → Type 0
 HaveOneType set =
     (c f import : ℕ) (item : Option ℕ) (ty : FuncTy) (os : List CanonOption) (t : Target)
     → core_def_in set c f ≡ Some (lowered import item ty os)
-    → targets_of set (links_of set) c import item ≡ Some t
+    → targets_of set.spaces (links_of set) c import item ≡ Some t
     → ∥ replaced_func (standing set c) ty ≡ (link_to set os t).type ∥₁

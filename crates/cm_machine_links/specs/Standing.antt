@@ -20,6 +20,7 @@ use Rattle.cm_validate_model.specs.Definitions.{CoreFuncDef}
 use Rattle.cm_validate_model.specs.Spaces.{Spaces}
 use Rattle.cm_validate_spaces.specs.Checked.{funcs_in}
 use Rattle.cm_validate_spaces.specs.declared.checked.Checked.{Checked}
+use Rattle.cm_match_model.specs.Imports.{LinkSet}
 use Rattle.cm_match_model.specs.Serving.{standing}
 use Rattle.cm_machine_model.specs.Plan as plan
 use Rattle.cm_machine_model.specs.Plan.{one_field}
@@ -72,7 +73,7 @@ AreCallTypes s (f ∷ fs) (t ∷ ts) = IsCallTypes s f t.value × IsSpelled f ×
 AreCallTypes s fs ts = ⊥
 
 -- those of components, numbered from here on
-abbrev pub AreTypesOf : List Spaces → ℕ → List Checked → List (List (Arc CallTypes Global)) → Type 0
+abbrev pub AreTypesOf : LinkSet → ℕ → List Checked → List (List (Arc CallTypes Global)) → Type 0
 AreTypesOf set c [] [] = ⊤
 AreTypesOf set c (x ∷ xs) (ts ∷ rows) =
     AreCallTypes (standing set c) (funcs_in x) ts × AreTypesOf set (c + 1) xs rows
@@ -85,24 +86,24 @@ IsCoreSpelled (plan.lowered l) = IsSpelled l.type
 IsCoreSpelled c = ⊤
 
 -- each core function of these components, numbered from here on, stands for something
-abbrev pub EachStands : List Spaces → ℕ → List Spaces → Type 0
+abbrev pub EachStands : LinkSet → ℕ → List Spaces → Type 0
 EachStands set c [] = ⊤
 EachStands set c (s ∷ ss) =
     AllByRecursion (λ d. is_some (core_func_of set c d) ≡ true) s.core_funcs
     × EachStands set (c + 1) ss
 
 -- what is made stands for what a core function does
-abbrev pub Stands : List Spaces → ℕ → CoreFuncDef → CoreFunc → Type 0
+abbrev pub Stands : LinkSet → ℕ → CoreFuncDef → CoreFunc → Type 0
 Stands set c d f =
     (p : plan.CoreFunc) → core_func_of set c d ≡ Some p → IsCoreFuncOf p f × IsCoreSpelled p
 
-abbrev pub AllStand : List Spaces → ℕ → List CoreFuncDef → List CoreFunc → Type 0
+abbrev pub AllStand : LinkSet → ℕ → List CoreFuncDef → List CoreFunc → Type 0
 AllStand set c [] [] = ⊤
 AllStand set c (d ∷ ds) (f ∷ fs) = Stands set c d f × AllStand set c ds fs
 AllStand set c ds fs = ⊥
 
 -- those of components, numbered from here on
-abbrev pub RowsStand : List Spaces → ℕ → List Spaces → List (List CoreFunc) → Type 0
+abbrev pub RowsStand : LinkSet → ℕ → List Spaces → List (List CoreFunc) → Type 0
 RowsStand set c [] [] = ⊤
 RowsStand set c (s ∷ ss) (fs ∷ rows) =
     AllStand set c s.core_funcs fs × RowsStand set (c + 1) ss rows

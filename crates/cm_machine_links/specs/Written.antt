@@ -15,7 +15,7 @@ use Rattle.cm_validate_model.specs.Definitions.{reading, lifted}
 use Rattle.cm_validate_model.specs.Items.{Item, all_items, type_item}
 use Rattle.cm_validate_model.specs.Sources.{IsAdded, IsCoreAdded, IsItemAt}
 use Rattle.cm_validate_model.specs.Spaces.{Spaces, next_resource, spaces_of}
-use Rattle.cm_match_model.specs.Imports.{links_of}
+use Rattle.cm_match_model.specs.Imports.{Sees, links_of, seen_by}
 use Rattle.cm_match_model.specs.Origins.{origin_of, resource_of}
 use Rattle.cm_match_model.specs.Serving.{standing}
 use Rattle.cm_match_model.specs.Targets.{Target, targets_of}
@@ -56,57 +56,61 @@ items_at components c = all_items (sections_at components c)
 -- it. What is called is the lift that the import comes to: its component, its core function, its
 -- type, with each resource what it is in the end; the callee's side, and what tidies up behind the
 -- call, are as that lift writes them.
-pub record IsLinkWritten (components : List (List SectionTree)) (c import : ℕ) (item : Option ℕ)
-    (os : List CanonOption) (l : Link) : Type 0 where
+pub record IsLinkWritten (components : List (List SectionTree)) (sees : Sees) (c import : ℕ)
+    (item : Option ℕ) (os : List CanonOption) (l : Link) : Type 0 where
   pub caller : WritesSide os l.caller
   pub target : Target
-  pub reached : targets_of (map spaces_of components) (links_of (map spaces_of components)) c
-      import item ≡ Some target
+  pub reached : targets_of (map spaces_of components)
+      (links_of (seen_by sees (map spaces_of components))) c import item ≡ Some target
   pub lift : IsAdded (items_at components target.component)
       (lifted target.core_func target.ty target.options)
   pub instance : l.instance ≡ target.component
   pub func : l.func ≡ target.core_func
   pub type : l.type
-      ≡ replaced_func (standing (map spaces_of components) target.component) target.ty
+      ≡ replaced_func (standing (seen_by sees (map spaces_of components)) target.component)
+      target.ty
   pub callee : WritesSide target.options l.callee
   pub post_return : WritesFunc option.PostReturn target.options l.post_return
 
 -- Handles of a resource of a component are dropped: those of what it is in the end; the destructor
 -- is the one that the type definition of this resource writes, and none where that writes none.
-pub record IsDropWritten (components : List (List SectionTree)) (c n : ℕ) (r : ResourceId)
-    (d : Option ℕ) : Type 0 where
-  pub origin : origin_of (map spaces_of components) (links_of (map spaces_of components))
-      (resource_of c n) ≡ Some r
+pub record IsDropWritten (components : List (List SectionTree)) (sees : Sees) (c n : ℕ)
+    (r : ResourceId) (d : Option ℕ) : Type 0 where
+  pub origin : origin_of (map spaces_of components)
+      (links_of (seen_by sees (map spaces_of components))) (resource_of c n) ≡ Some r
   pub destructor : (s : Spaces) (written : Option ℕ)
       → IsItemAt (items_at components r.component) s (type_item (resource_def written))
       → next_resource s ≡ r.number → d ≡ written
 
 -- What a plan has in the place of a core function of a component is as its definition writes it:
 -- what makes and reads handles is of the component's own resource.
-abbrev pub IsCoreFuncWritten : List (List SectionTree) → ℕ → CoreFuncDef → CoreFunc → Type 0
-IsCoreFuncWritten components c (guest e) plan.guest = ⊤
-IsCoreFuncWritten components c (lowered import item ty os) (plan.lowered l) =
-    IsLinkWritten components c import item os l
-IsCoreFuncWritten components c (making n) (plan.makes r) = r ≡ resource_of c n
-IsCoreFuncWritten components c (dropping n) (plan.drops r d) = IsDropWritten components c n r d
-IsCoreFuncWritten components c (reading n) (plan.represents r) = r ≡ resource_of c n
-IsCoreFuncWritten components c d x = ⊥
+abbrev pub IsCoreFuncWritten : List (List SectionTree) → Sees → ℕ → CoreFuncDef → CoreFunc
+    → Type 0
+IsCoreFuncWritten components sees c (guest e) plan.guest = ⊤
+IsCoreFuncWritten components sees c (lowered import item ty os) (plan.lowered l) =
+    IsLinkWritten components sees c import item os l
+IsCoreFuncWritten components sees c (making n) (plan.makes r) = r ≡ resource_of c n
+IsCoreFuncWritten components sees c (dropping n) (plan.drops r d) =
+    IsDropWritten components sees c n r d
+IsCoreFuncWritten components sees c (reading n) (plan.represents r) = r ≡ resource_of c n
+IsCoreFuncWritten components sees c d x = ⊥
 
 -- what a plan has in the place of an index of a core function that has this definition
-pub record HasCoreFunc (components : List (List SectionTree)) (p : Plan) (c f : ℕ)
+pub record HasCoreFunc (components : List (List SectionTree)) (sees : Sees) (p : Plan) (c f : ℕ)
     (d : CoreFuncDef) : Type 0 where
   pub added : IsCoreAdded (items_at components c) d
   pub func : CoreFunc
   pub there : core_func_at p c f ≡ Some func
-  pub written : IsCoreFuncWritten components c d func
+  pub written : IsCoreFuncWritten components sees c d func
 
 -- A plan is as the components of its set write it: each core function in the index space of a
 -- component is a guest's, or added by a canonical definition there, and the plan has in its place
 -- what that writes; it has no other.
-pub record IsPlanWritten (components : List (List SectionTree)) (p : Plan) : Type 0 where
+pub record IsPlanWritten (components : List (List SectionTree)) (sees : Sees) (p : Plan)
+    : Type 0 where
   pub core_funcs : (c f : ℕ) (d : CoreFuncDef)
       → slice_get (spaces_of (sections_at components c)).core_funcs f ≡ Some d
-      → HasCoreFunc components p c f d
+      → HasCoreFunc components sees p c f d
   pub no_other : (c f : ℕ)
       → slice_get (spaces_of (sections_at components c)).core_funcs f ≡ None
       → core_func_at p c f ≡ None

@@ -75,7 +75,7 @@ fn lowered_func(
 ) -> Result<CoreFunc, AllocError>
     requires known { AreTypesOf (set_in linked.now) 0 (components_in linked.now)
         (map (λ v. v.items) types.now) }
-    requires there { is_some (targets_of (set_in linked.now) (links_of (set_in linked.now))
+    requires there { is_some (targets_of (set_in linked.now).spaces (links_of (set_in linked.now))
         component import item) ≡ true }
     ensures { IfOk result (λ f. (ty : FuncTy)
         → Stands (set_in linked.now) component (lowered import item ty options.now) f) }

@@ -33,9 +33,9 @@ fn components_are_valid(linked: &Linked<'_>)
 /// Each core function of a linked set stands for something; and what is made of them stands for the
 /// plan of the set, of which holds what the machine asks of one.
 pub(crate) fn core_functions_stand(linked: &Linked<'_>)
-    ensures each { EachStands (set_in linked.now) 0 (set_in linked.now) }
+    ensures each { EachStands (set_in linked.now) 0 (set_in linked.now).spaces }
     ensures plan { (rows : List (List Function))
-        → RowsStand (set_in linked.now) 0 (set_in linked.now) rows
+        → RowsStand (set_in linked.now) 0 (set_in linked.now).spaces rows
         → (p : Plan) × IsPlanOf (set_in linked.now) p × IsPlan p × AreRowsOf p rows }
     ensures one_type { HaveOneType (set_in linked.now) }
 {

@@ -78,7 +78,7 @@ fn rows_of(
 ) -> Result<Vec<Vec<CoreFunc>>, AllocError>
     requires known { AreTypesOf (set_in linked.now) 0 (components_in linked.now)
         (map (λ v. v.items) types.now) }
-    ensures { IfOk result (λ rows. RowsStand (set_in linked.now) 0 (set_in linked.now)
+    ensures { IfOk result (λ rows. RowsStand (set_in linked.now) 0 (set_in linked.now).spaces
         (map (λ v. v.items) rows.items)) }
 {
     core_functions_stand(linked);

@@ -14,7 +14,7 @@ use Rattle.cm_machine_model.specs.Valid.{IsValidState}
 use Rattle.cm_machine_links.specs.declared.links.Links.{Links}
 use Rattle.cm_machine_links.specs.Planned.{ArePlanned}
 use Rattle.cm_machine_links.specs.Planning.{IsPlanOf}
-use Rattle.cm_validate_model.specs.Spaces.{Spaces}
+use Rattle.cm_match_model.specs.Imports.{LinkSet}
 
 -- What each core function stands for, the state, and what is kept of the value on its way.
 pub record RunningSet : Type 0 where
@@ -24,7 +24,7 @@ pub record RunningSet : Type 0 where
 
 -- A set that nothing has happened to: it stands for the plan of what was linked, with these numbers
 -- of pages.
-pub record IsNew (linked : List Spaces) (pages : List ℕ) (s : RunningSet) : Type 0 where
+pub record IsNew (linked : LinkSet) (pages : List ℕ) (s : RunningSet) : Type 0 where
   pub plan : Plan
   pub of_linked : IsPlanOf linked plan
   pub planned : ArePlanned plan s.links

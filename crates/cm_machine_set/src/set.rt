@@ -111,7 +111,7 @@ fn lend_count(lends: &[Lend], place: usize) -> usize
 
 /// What a linked set is made of before anything ran.
 fn set_of(alloc: Global, linked: &Linked<'_>, pages: &[u32]) -> Result<Set, AllocError>
-    requires { are_page_counts (length (set_in linked.now)) pages.now ≡ true }
+    requires { are_page_counts (length (set_in linked.now).spaces) pages.now ≡ true }
     ensures { IfOk result (λ s. IsNew (set_in linked.now) pages.now s) }
 {
     machine_starts_valid();
@@ -253,7 +253,7 @@ impl Set {
         // What happens to the set from here on is a history of what was linked: so far nothing.
         ensures history { IfOk result (λ s. IsNew (set_in linked.now) pages.now s) }
         ensures bad_pages { IsErrOf result Misuse.BadPages
-            ↔ (are_page_counts (length (set_in linked.now)) pages.now ≡ false) }
+            ↔ (are_page_counts (length (set_in linked.now).spaces) pages.now ≡ false) }
         ensures only { IfErr result (λ m. (m ≡ Misuse.BadPages) ⊎ (m ≡ Misuse.Memory)) }
     {
         if !are_page_counts(linked.components().len(), pages) {

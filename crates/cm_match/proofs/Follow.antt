@@ -10,20 +10,20 @@ use Rattle.cm_match_serving.specs.cm_validate_spaces.Exported.{exported_func_of,
 use Rattle.cm_match_serving.specs.cm_validate_spaces.declared.checked.Checked.{Checked}
 use Rattle.cm_match_model.specs.Origins.{Links, item_name}
 use Rattle.cm_match_model.specs.declared.component.Link.{Link}
-use Rattle.cm_match_model.specs.Imports.{export_in, links_of}
+use Rattle.cm_match_model.specs.Imports.{LinkSet, export_in, links_of}
 use Rattle.cm_match_model.specs.Targets.{func_for, linked_func, serving_func}
-use Rattle.cm_match_serving.specs.Sets.{funcs_at, sections_of, set_of}
+use Rattle.cm_match_serving.specs.Sets.{funcs_at, sections_of, spaces_of_all}
 
 -- ---- a component of the set
 
-pub space_at : (cs : List Checked) (n : ℕ) → slice_get (set_of cs) n ≡ option_map checked.spaces_in (slice_get cs n)
+pub space_at : (cs : List Checked) (n : ℕ) → slice_get (spaces_of_all cs) n ≡ option_map checked.spaces_in (slice_get cs n)
 space_at cs n = slice_get-map spaces_of (sections_of cs) n ∙ ap (option_map spaces_of) (slice_get-map checked.sections_in cs n) ∙ twice (slice_get cs n)
   where
     twice : (o : Option Checked) → option_map spaces_of (option_map checked.sections_in o) ≡ option_map checked.spaces_in o
     twice None = refl
     twice (Some c) = refl
 
-export_none : (cs : List Checked) (n export : ℕ) → slice_get cs n ≡ None → export_in (set_of cs) n export ≡ None
+export_none : (cs : List Checked) (n export : ℕ) → slice_get cs n ≡ None → export_in (spaces_of_all cs) n export ≡ None
 export_none cs n export e = rw (space_at cs n, e) refl
 
 -- ---- what an export is, or has under a name
@@ -32,10 +32,10 @@ under_def : (name : Option (List ℕ)) (o : Option definitions.NamedExport) → 
 under_def name None = refl
 under_def name (Some e) = refl
 
-pub exported_by : (cs : List Checked) (n export : ℕ) (name : Option (List ℕ)) (p : Checked) → slice_get cs n ≡ Some p → exported_func_of (checked.spaces_in p) export name ≡ option_and_then (func_under name) (export_in (set_of cs) n export)
+pub exported_by : (cs : List Checked) (n export : ℕ) (name : Option (List ℕ)) (p : Checked) → slice_get cs n ≡ Some p → exported_func_of (checked.spaces_in p) export name ≡ option_and_then (func_under name) (export_in (spaces_of_all cs) n export)
 exported_by cs n export name p e = rw (space_at cs n, e) (under_def name (slice_get (checked.spaces_in p).exports export))
 
-pub exported_by_none : (cs : List Checked) (n export : ℕ) (name : Option (List ℕ)) → slice_get cs n ≡ None → option_and_then (func_under name) (export_in (set_of cs) n export) ≡ None
+pub exported_by_none : (cs : List Checked) (n export : ℕ) (name : Option (List ℕ)) → slice_get cs n ≡ None → option_and_then (func_under name) (export_in (spaces_of_all cs) n export) ≡ None
 exported_by_none cs n export name e = rw (space_at cs n, e) refl
 
 pub funcs_of_it : (cs : List Checked) (n : ℕ) (p : Checked) → slice_get cs n ≡ Some p → funcs_at cs n ≡ checked.funcs_in p
@@ -57,15 +57,15 @@ pub nothing_under : (s : Spaces) (import item : ℕ) (o : Option ExportDef) → 
 nothing_under s import item None e = refl
 nothing_under s import item (Some x) e = rw e refl
 
-at_least : (set : List Spaces) (c i : ℕ) (l : Link) (o : Option Spaces) → slice_get set c ≡ o → links_of set c i ≡ Some l → (s : Spaces) × (slice_get set c ≡ Some s)
+at_least : (set : LinkSet) (c i : ℕ) (l : Link) (o : Option Spaces) → slice_get set.spaces c ≡ o → links_of set c i ≡ Some l → (s : Spaces) × (slice_get set.spaces c ≡ Some s)
 at_least set c i l (Some s) e f = (s, e)
 at_least set c i l None e f = let g = rw e at f in absurd cc
 
-pub space_of : (set : List Spaces) (c i : ℕ) (l : Link) → links_of set c i ≡ Some l → (s : Spaces) × (slice_get set c ≡ Some s)
-space_of set c i l f = at_least set c i l (slice_get set c) refl f
+pub space_of : (set : LinkSet) (c i : ℕ) (l : Link) → links_of set c i ≡ Some l → (s : Spaces) × (slice_get set.spaces c ≡ Some s)
+space_of set c i l f = at_least set c i l (slice_get set.spaces c) refl f
 
-pub serves : (set : List Spaces) (c i : ℕ) (item : Option ℕ) (l : Link) (s : Spaces) → slice_get set c ≡ Some s → links_of set c i ≡ Some l → serving_func set (links_of set) c i item ≡ linked_func set s i item l
-serves set c i item l s e f = ap (option_and_then (λ t. option_and_then (linked_func set t i item) (links_of set c i))) e ∙ ap (option_and_then (linked_func set s i item)) f
+pub serves : (set : LinkSet) (c i : ℕ) (item : Option ℕ) (l : Link) (s : Spaces) → slice_get set.spaces c ≡ Some s → links_of set c i ≡ Some l → serving_func set.spaces (links_of set) c i item ≡ linked_func set.spaces s i item l
+serves set c i item l s e f = ap (option_and_then (λ t. option_and_then (linked_func set.spaces t i item) (links_of set c i))) e ∙ ap (option_and_then (linked_func set.spaces s i item)) f
 
 nothing_at : (set : List Spaces) (links : Links) (c i : ℕ) (item : Option ℕ) (o : Option Spaces) → slice_get set c ≡ o → links c i ≡ None → serving_func set links c i item ≡ None
 nothing_at set links c i item None e f = rw e refl

@@ -18,9 +18,9 @@ use Rattle.cm_validate_items.specs.declared.shared.Shared.{Shared}
 use Rattle.cm_match_serving.specs.cm_validate_spaces.Checked.{sections_in, spaces_in}
 use Rattle.cm_match_serving.specs.cm_validate_spaces.declared.checked.Checked.{Checked}
 use Rattle.cm_match_model.specs.declared.component.Link.{Link}
-use Rattle.cm_match_model.specs.Imports.{import_at, import_in, link_of, links_of}
+use Rattle.cm_match_model.specs.Imports.{LinkSet, Sees, import_at, import_in, link_of, links_of, seen_by}
 use Rattle.cm_match_model.specs.Links.{IsServed}
-use Rattle.cm_match_serving.specs.Sets.{sections_of, set_of}
+use Rattle.cm_match_serving.specs.Sets.{sections_of, spaces_of_all}
 use Rattle.cm_match_model.specs.Alike.{IsLinkedTo}
 use Rattle.cm_match_model.specs.Brought.{OwnsWhatItBrings}
 use Rattle.cm_match.specs.Pairs.{AreTables, IsNoted, IsPairOf, IsServedPair, Pair, pair_cmp, pair_eq}
@@ -75,7 +75,7 @@ module _ (cs : List Checked) (tables : List Shared) (t : AreTables cs tables) (c
   pub sections : List SectionTree
   sections = sections_in component.0
 
-  pub spaces_are : slice_get (set_of cs) c ≡ Some (spaces_of sections)
+  pub spaces_are : slice_get (spaces_of_all cs) c ≡ Some (spaces_of sections)
   unfolding sections
   spaces_are = slice_get-map spaces_of (sections_of cs) c ∙ ap (option_map spaces_of) (slice_get-map sections_in cs c ∙ ap (option_map sections_in) component.1)
 
@@ -136,23 +136,18 @@ Counted = (ss : List SectionTree) → AreSpacesCounted (spaces_of ss)
 
 abbrev pub Alike : Type 0
 Alike =
-    (components : List (List SectionTree)) (c j k d : ℕ) (t : InstanceTy) (a b : ℕ) (e : ExportDef) (x y : NamedExtern)
+    (components : List (List SectionTree)) (sees : Sees) (c j k d : ℕ) (t : InstanceTy) (a b : ℕ) (e : ExportDef) (x y : NamedExtern)
     → OwnsWhatItBrings t
-    → IsLinkedTo (map spaces_of components) c j t a d e
-    → IsLinkedTo (map spaces_of components) c k t b d e
+    → IsLinkedTo (seen_by sees (map spaces_of components)) c j t a d e
+    → IsLinkedTo (seen_by sees (map spaces_of components)) c k t b d e
     → import_in (map spaces_of components) c j ≡ Some x
     → import_in (map spaces_of components) c k ≡ Some y
-    → IsServed (map spaces_of components) (import_at c j x)
-    → IsServed (map spaces_of components) (import_at c k y)
+    → IsServed (seen_by sees (map spaces_of components)) (import_at c j x)
+    → IsServed (seen_by sees (map spaces_of components)) (import_at c k y)
 
--- the import of a pair, as one that is linked to a definition
-pub record Linked (cs : List Checked) (tables : List Shared) (component import : ℕ) (p : Pair) (ty : InstanceTy) (def : ExportDef) : Type 0 where
-  pub next : ℕ
-  pub linked : IsLinkedTo (set_of cs) component import ty next p.1.0 def
-
-module _ (counted : Counted) (types_move : TypesMove) (funcs_move : FuncsMove) (alike : Alike) (cs : List Checked) (tables : List Shared) (t : AreTables cs tables) (component : ℕ) (p : Pair) where
-  abbrev set : List Spaces
-  set = set_of cs
+module _ (counted : Counted) (types_move : TypesMove) (funcs_move : FuncsMove) (alike : Alike) (cs : List Checked) (sees : Sees) (tables : List Shared) (t : AreTables cs tables) (component : ℕ) (p : Pair) where
+  abbrev set : LinkSet
+  set = seen_by sees (spaces_of_all cs)
 
   -- the table of the component, and that of the provider
   table_of : (import : ℕ) → IsPairOf set tables component import p → (w : Shared) × (slice_get tables component ≡ Some w) × (import_type_in w import ≡ Some p.0.1)
@@ -194,10 +189,10 @@ module _ (counted : Counted) (types_move : TypesMove) (funcs_move : FuncsMove) (
       link = q.link;
       linked = q.linked;
       to = sym q.provider;
-      exported = ap (option_and_then (λ (s : Spaces). option_map (λ x. x.def) (slice_get s.exports q.link.export))) (ap (slice_get set) (sym q.provider) ∙ spaces_are cs tables t p.1.0 v to) ∙ exported;
+      exported = ap (option_and_then (λ (s : Spaces). option_map (λ x. x.def) (slice_get s.exports q.link.export))) (ap (slice_get (spaces_of_all cs)) (sym q.provider) ∙ spaces_are cs tables t p.1.0 v to) ∙ exported;
     }
 
-    both : (j k : ℕ) (x y : NamedExtern) → IsPairOf set tables component j p → IsPairOf set tables component k p → import_in set component j ≡ Some x → import_in set component k ≡ Some y
+    both : (j k : ℕ) (x y : NamedExtern) → IsPairOf set tables component j p → IsPairOf set tables component k p → import_in set.spaces component j ≡ Some x → import_in set.spaces component k ≡ Some y
         → IsServed set (import_at component j x) → IsServed set (import_at component k y)
     both j k x y q r there here served =
         let a = typed j q in
@@ -207,7 +202,7 @@ module _ (counted : Counted) (types_move : TypesMove) (funcs_move : FuncsMove) (
         let one_type : b.0 ≡ a.0 = instance_is (some_in (sym b.1 ∙ a.1)) in
         let one_instance : f.0 ≡ e.0 = some_in (sym f.1 ∙ e.1) in
         let of : IsImportOf own k a.0 = subst (IsImportOf own k) one_type b.2 in
-        alike (sections_of cs) component j k p.1.0 a.0 a.2.next of.next (exported_instance e.0) x y
+        alike (sections_of cs) sees component j k p.1.0 a.0 a.2.next of.next (exported_instance e.0) x y
         (counted_type a.0 a.1).fresh
         (linked_to j q a.0 e.0 a.1 a.2 e.2)
         (linked_to k r a.0 e.0 a.1 of (f.2 ∙ ap (λ (ms : List NamedMember). Some (exported_instance ms)) one_instance))
@@ -217,11 +212,11 @@ module _ (counted : Counted) (types_move : TypesMove) (funcs_move : FuncsMove) (
         instance_is e = cc
 
   -- an import of a pair that serves is served
-  pub served_again : (import : ℕ) (y : NamedExtern) → IsServedPair set tables p → IsPairOf set tables component import p → import_in set component import ≡ Some y → IsServed set (import_at component import y)
+  pub served_again : (import : ℕ) (y : NamedExtern) → IsServedPair set tables p → IsPairOf set tables component import p → import_in set.spaces component import ≡ Some y → IsServed set (import_at component import y)
   served_again import y h q here =
       let from = table_of import q in
       let to = table_to import q in
-      let there : import_in set component h.import ≡ Some h.item = ap (λ (c : ℕ). import_in set c h.import) (sym q.importer) ∙ h.there in
+      let there : import_in set.spaces component h.import ≡ Some h.item = ap (λ (c : ℕ). import_in set.spaces c h.import) (sym q.importer) ∙ h.there in
       let pair : IsPairOf set tables component h.import p = subst (λ (c : ℕ). IsPairOf set tables c h.import p) q.importer h.pair in
       let served : IsServed set (import_at component h.import h.item) = subst (λ (c : ℕ). IsServed set (import_at c h.import h.item)) q.importer h.served in
       both from.0 from.1 to.0 to.1 h.import import h.item y pair q there here served
@@ -229,18 +224,18 @@ module _ (counted : Counted) (types_move : TypesMove) (funcs_move : FuncsMove) (
 -- ---- what a pair tells
 
 -- an import that is linked is there
-pub linked_import : (set : List Spaces) (c n : ℕ) (l : Link) → links_of set c n ≡ Some l → (x : NamedExtern) × (import_in set c n ≡ Some x)
-linked_import set c n l e = let s = stepped (import_in set c n) (λ x. link_of set (import_at c n x)) l e in (s.0, s.1)
+pub linked_import : (set : LinkSet) (c n : ℕ) (l : Link) → links_of set c n ≡ Some l → (x : NamedExtern) × (import_in set.spaces c n ≡ Some x)
+linked_import set c n l e = let s = stepped (import_in set.spaces c n) (λ x. link_of set (import_at c n x)) l e in (s.0, s.1)
 
 -- a pair that was just found to serve
-pub now_served : (set : List Spaces) (tables : List Shared) (component import : ℕ) (p : Pair) → IsPairOf set tables component import p
-    → ((x : NamedExtern) → import_in set component import ≡ Some x → IsServed set (import_at component import x)) → IsServedPair set tables p
+pub now_served : (set : LinkSet) (tables : List Shared) (component import : ℕ) (p : Pair) → IsPairOf set tables component import p
+    → ((x : NamedExtern) → import_in set.spaces component import ≡ Some x → IsServed set (import_at component import x)) → IsServedPair set tables p
 now_served set tables component import p q all =
     let x = linked_import set component import q.link q.linked in
     record {
       import = import;
       item = x.0;
-      there = ap (λ (c : ℕ). import_in set c import) q.importer ∙ x.1;
+      there = ap (λ (c : ℕ). import_in set.spaces c import) q.importer ∙ x.1;
       pair = subst (λ (c : ℕ). IsPairOf set tables c import p) (sym q.importer) q;
       served = subst (λ (c : ℕ). IsServed set (import_at c import x.0)) (sym q.importer) (all x.0 x.1);
     }

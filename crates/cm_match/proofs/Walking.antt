@@ -9,7 +9,7 @@ use Rattle.cm_match_model.specs.declared.fault.LinkFault.{LinkFault}
 use Rattle.cm_match_model.specs.declared.fault.LinkReason.{LinkReason}
 use Rattle.cm_match_model.specs.declared.fault.LinkReason.TheVariants as reason
 use Rattle.cm_match_model.specs.declared.plan.PlanLine.{PlanLine}
-use Rattle.cm_match_model.specs.Imports.{ImportAt, all_imports_from, import_at, import_in, imports_from, imports_of, link_of}
+use Rattle.cm_match_model.specs.Imports.{ImportAt, LinkSet, Sees, all_imports_from, import_at, import_in, imports_from, imports_of, link_of, seen_by}
 use Rattle.cm_match_model.specs.Links.{IsNotServed, IsServed, lines_of, plan_line}
 use Rattle.cm_match.specs.Before.{AreServedBefore, imports_at, imports_before}
 use Rattle.std.specs.Bool.{⊤}
@@ -21,7 +21,7 @@ use Rattle.cm_match_serving.specs.cm_validate_spaces.Checked as checked
 use Rattle.cm_match_serving.specs.cm_validate_spaces.declared.checked.Checked.{Checked}
 use Rattle.cm_match_model.specs.Links.{CanBeLinked, IsLinkFault, plan_of}
 use Rattle.cm_match_model.specs.Serving.{IsExternUnserved, IsUnserved, item_under}
-use Rattle.cm_match_serving.specs.Sets.{set_of}
+use Rattle.cm_match_serving.specs.Sets.{spaces_of_all}
 use Rattle.cm_match.specs.Walks.{HasServed, IsFirstOf, IsWalkFault, Serves, Stops}
 use Rattle.cm_match.proofs.Follow.{space_at}
 use Rattle.cm_match_serving.proofs.Judging.{set_length}
@@ -108,53 +108,53 @@ from_here set c s e = (
 
 -- ---- lines
 
-lines_both : (set : List Spaces) (xs ys : List ImportAt) → lines_of set (xs ++ ys) ≡ lines_of set xs ++ lines_of set ys
+lines_both : (set : LinkSet) (xs ys : List ImportAt) → lines_of set (xs ++ ys) ≡ lines_of set xs ++ lines_of set ys
 lines_both set [] ys = refl
 lines_both set (x ∷ xs) ys = ap (λ l. option_to_list (option_map (plan_line x) (link_of set x)) ++ l) (lines_both set xs ys) ∙ sym (append_assoc (option_to_list (option_map (plan_line x) (link_of set x))) (lines_of set xs) (lines_of set ys))
 
 -- ---- a walk
 
-pub begun : (set : List Spaces) → HasServed set 0 0 []
+pub begun : (set : LinkSet) → HasServed set 0 0 []
 begun set = record { served = tt; lines = refl }
 
 -- one more import
-pub one_more : (set : List Spaces) (c n : ℕ) (x : NamedExtern) (s : Spaces) (old new : List PlanLine) → slice_get set c ≡ Some s → slice_get s.imports n ≡ Some x → HasServed set c n old → IsServed set (import_at c n x) → new ≡ old ++ lines_of set (import_at c n x ∷ []) → HasServed set c (suc n) new
+pub one_more : (set : LinkSet) (c n : ℕ) (x : NamedExtern) (s : Spaces) (old new : List PlanLine) → slice_get set.spaces c ≡ Some s → slice_get s.imports n ≡ Some x → HasServed set c n old → IsServed set (import_at c n x) → new ≡ old ++ lines_of set (import_at c n x ∷ []) → HasServed set c (suc n) new
 one_more set c n x s old new e f h i l =
-    let more : imports_before set c (suc n) ≡ imports_before set c n ++ import_at c n x ∷ [] =
-    ap (λ m. all_imports_from 0 (take c set) ++ m) (take_next (imports_at set c) n (import_at c n x) (import_found set c n s x e f)) ∙ sym (append_assoc (all_imports_from 0 (take c set)) (take n (imports_at set c)) (import_at c n x ∷ [])) in
+    let more : imports_before set.spaces c (suc n) ≡ imports_before set.spaces c n ++ import_at c n x ∷ [] =
+    ap (λ m. all_imports_from 0 (take c set.spaces) ++ m) (take_next (imports_at set.spaces c) n (import_at c n x) (import_found set.spaces c n s x e f)) ∙ sym (append_assoc (all_imports_from 0 (take c set.spaces)) (take n (imports_at set.spaces c)) (import_at c n x ∷ [])) in
     record {
-      served = subst (AllByRecursion (IsServed set)) (sym more) (all_both (IsServed set) (imports_before set c n) (import_at c n x ∷ []) h.served (i, tt));
-      lines = l ∙ ap (λ m. m ++ lines_of set (import_at c n x ∷ [])) h.lines ∙ sym (lines_both set (imports_before set c n) (import_at c n x ∷ [])) ∙ ap (lines_of set) (sym more);
+      served = subst (AllByRecursion (IsServed set)) (sym more) (all_both (IsServed set) (imports_before set.spaces c n) (import_at c n x ∷ []) h.served (i, tt));
+      lines = l ∙ ap (λ m. m ++ lines_of set (import_at c n x ∷ [])) h.lines ∙ sym (lines_both set (imports_before set.spaces c n) (import_at c n x ∷ [])) ∙ ap (lines_of set) (sym more);
     }
 
 -- all of a component
-pub next_component : (set : List Spaces) (c : ℕ) (s : Spaces) (plan : List PlanLine) → slice_get set c ≡ Some s → HasServed set c (length s.imports) plan → HasServed set (suc c) 0 plan
+pub next_component : (set : LinkSet) (c : ℕ) (s : Spaces) (plan : List PlanLine) → slice_get set.spaces c ≡ Some s → HasServed set c (length s.imports) plan → HasServed set (suc c) 0 plan
 next_component set c s plan e h =
-    let same : imports_before set c (length s.imports) ≡ imports_before set (suc c) 0 =
-    ap (λ m. all_imports_from 0 (take c set) ++ m) (ap (λ n. take n (imports_at set c)) (sym (ap length (imports_here set c s e) ∙ imports_length c 0 s.imports)) ∙ taken_all (imports_at set c))
-    ∙ sym (through set c s e) ∙ sym (append-nil (all_imports_from 0 (take (suc c) set))) in
+    let same : imports_before set.spaces c (length s.imports) ≡ imports_before set.spaces (suc c) 0 =
+    ap (λ m. all_imports_from 0 (take c set.spaces) ++ m) (ap (λ n. take n (imports_at set.spaces c)) (sym (ap length (imports_here set.spaces c s e) ∙ imports_length c 0 s.imports)) ∙ taken_all (imports_at set.spaces c))
+    ∙ sym (through set.spaces c s e) ∙ sym (append-nil (all_imports_from 0 (take (suc c) set.spaces))) in
     record {
       served = subst (AllByRecursion (IsServed set)) same h.served;
       lines = h.lines ∙ ap (lines_of set) same;
     }
 
 -- the whole set
-pub all_before : (set : List Spaces) → imports_before set (length set) 0 ≡ imports_of set
-all_before set = append-nil (all_imports_from 0 (take (length set) set)) ∙ ap (all_imports_from 0) (taken_all set)
+pub all_before : (set : LinkSet) → imports_before set.spaces (length set.spaces) 0 ≡ imports_of set.spaces
+all_before set = append-nil (all_imports_from 0 (take (length set.spaces) set.spaces)) ∙ ap (all_imports_from 0) (taken_all set.spaces)
 
 -- the import that is not served is the first
-pub stopped : (set : List Spaces) (c n : ℕ) (x : NamedExtern) (s : Spaces) (plan : List PlanLine) (r : LinkReason) → slice_get set c ≡ Some s → slice_get s.imports n ≡ Some x → HasServed set c n plan → IsNotServed set (import_at c n x) r → IsFirstOf set c n r
+pub stopped : (set : LinkSet) (c n : ℕ) (x : NamedExtern) (s : Spaces) (plan : List PlanLine) (r : LinkReason) → slice_get set.spaces c ≡ Some s → slice_get s.imports n ≡ Some x → HasServed set c n plan → IsNotServed set (import_at c n x) r → IsFirstOf set c n r
 stopped set c n x s plan r e f h i =
-    let here = from_here set c s e in
-    let cut = split_at (imports_at set c) n (import_at c n x) (import_found set c n s x e f) in
+    let here = from_here set.spaces c s e in
+    let cut = split_at (imports_at set.spaces c) n (import_at c n x) (import_found set.spaces c n s x e f) in
     record {
       import = import_at c n x;
       first = record {
-        front = imports_before set c n;
-        rest = drop (suc n) (imports_at set c) ++ here.0;
-        split = here.1 ∙ ap (λ m. all_imports_from 0 (take c set) ++ (m ++ here.0)) cut
-            ∙ ap (λ m. all_imports_from 0 (take c set) ++ m) (append_assoc (take n (imports_at set c)) (import_at c n x ∷ drop (suc n) (imports_at set c)) here.0)
-            ∙ sym (append_assoc (all_imports_from 0 (take c set)) (take n (imports_at set c)) (import_at c n x ∷ (drop (suc n) (imports_at set c) ++ here.0)));
+        front = imports_before set.spaces c n;
+        rest = drop (suc n) (imports_at set.spaces c) ++ here.0;
+        split = here.1 ∙ ap (λ m. all_imports_from 0 (take c set.spaces) ++ (m ++ here.0)) cut
+            ∙ ap (λ m. all_imports_from 0 (take c set.spaces) ++ m) (append_assoc (take n (imports_at set.spaces c)) (import_at c n x ∷ drop (suc n) (imports_at set.spaces c)) here.0)
+            ∙ sym (append_assoc (all_imports_from 0 (take c set.spaces)) (take n (imports_at set.spaces c)) (import_at c n x ∷ (drop (suc n) (imports_at set.spaces c) ++ here.0)));
         before = h.served;
       };
       component_is = refl;
@@ -164,51 +164,51 @@ stopped set c n x s plan r e f h i =
 
 -- ---- the components of a set
 
-pub count_of : (cs : List Checked) (c : ℕ) (p : Checked) (s : Spaces) (k : ℕ) → slice_get cs c ≡ Some p → k ≡ length (checked.spaces_in p).imports → slice_get (set_of cs) c ≡ Some s → k ≡ length s.imports
+pub count_of : (cs : List Checked) (c : ℕ) (p : Checked) (s : Spaces) (k : ℕ) → slice_get cs c ≡ Some p → k ≡ length (checked.spaces_in p).imports → slice_get (spaces_of_all cs) c ≡ Some s → k ≡ length s.imports
 count_of cs c p s k e f g = f ∙ ap (λ t. length t.imports) (some_is (checked.spaces_in p) s (sym (space_at cs c ∙ ap (option_map checked.spaces_in) e) ∙ g))
   where
     some_is : (x y : Spaces) → Some x ≡ Some y → x ≡ y
     some_is x y e = cc
 
-pub count_none : (cs : List Checked) (c : ℕ) (s : Spaces) (k : ℕ) → slice_get cs c ≡ None → slice_get (set_of cs) c ≡ Some s → k ≡ length s.imports
+pub count_none : (cs : List Checked) (c : ℕ) (s : Spaces) (k : ℕ) → slice_get cs c ≡ None → slice_get (spaces_of_all cs) c ≡ Some s → k ≡ length s.imports
 count_none cs c s k e g = let h = sym (space_at cs c ∙ ap (option_map checked.spaces_in) e) ∙ g in absurd cc
 
-abbrev pub IsCountAt : List Spaces → ℕ → ℕ → Type 0
-IsCountAt set c count = (s : Spaces) → slice_get set c ≡ Some s → count ≡ length s.imports
+abbrev pub IsCountAt : LinkSet → ℕ → ℕ → Type 0
+IsCountAt set c count = (s : Spaces) → slice_get set.spaces c ≡ Some s → count ≡ length s.imports
 
-import_there : (set : List Spaces) (c n : ℕ) (s : Spaces) (x : NamedExtern) → slice_get set c ≡ Some s → slice_get s.imports n ≡ Some x → import_in set c n ≡ Some x
+import_there : (set : LinkSet) (c n : ℕ) (s : Spaces) (x : NamedExtern) → slice_get set.spaces c ≡ Some s → slice_get s.imports n ≡ Some x → import_in set.spaces c n ≡ Some x
 import_there set c n s x e f = rw e f
 
-pub walk_stops : (set : List Spaces) (c n count : ℕ) (plan : List PlanLine) (r : LinkReason) → c < length set → IsCountAt set c count → n < count → HasServed set c n plan → Stops set c n r → IsWalkFault set (record { component = c; import = n; reason = r })
+pub walk_stops : (set : LinkSet) (c n count : ℕ) (plan : List PlanLine) (r : LinkReason) → c < length set.spaces → IsCountAt set c count → n < count → HasServed set c n plan → Stops set c n r → IsWalkFault set (record { component = c; import = n; reason = r })
 walk_stops set c n count plan r h k l served stops =
-    let s = got_at set c h in
+    let s = got_at set.spaces c h in
     let same = k s.0 s.1 in
     let x = got_at s.0.imports n (omega arith) in
     told s.0 x.0 s.1 x.1 (stops x.0 (import_there set c n s.0 x.0 s.1 x.1))
   where
-    told : (s : Spaces) (x : NamedExtern) → slice_get set c ≡ Some s → slice_get s.imports n ≡ Some x → (r ≡ reason.Memory) ⊎ IsNotServed set (import_at c n x) r → IsWalkFault set (record { component = c; import = n; reason = r })
+    told : (s : Spaces) (x : NamedExtern) → slice_get set.spaces c ≡ Some s → slice_get s.imports n ≡ Some x → (r ≡ reason.Memory) ⊎ IsNotServed set (import_at c n x) r → IsWalkFault set (record { component = c; import = n; reason = r })
     told s x e f (inl m) = inl (m, served.served)
     told s x e f (inr u) = inr (stopped set c n x s plan r e f served u)
 
-pub walk_goes_on : (set : List Spaces) (c n count : ℕ) (old new : List PlanLine) → c < length set → IsCountAt set c count → n < count → HasServed set c n old → Serves set c n old new → HasServed set c (n + 1) new
+pub walk_goes_on : (set : LinkSet) (c n count : ℕ) (old new : List PlanLine) → c < length set.spaces → IsCountAt set c count → n < count → HasServed set c n old → Serves set c n old new → HasServed set c (n + 1) new
 walk_goes_on set c n count old new h k l served serves =
-    let s = got_at set c h in
+    let s = got_at set.spaces c h in
     let same = k s.0 s.1 in
     let x = got_at s.0.imports n (omega arith) in
     let one = serves x.0 (import_there set c n s.0 x.0 s.1 x.1) in
     subst (λ m. HasServed set c m new) (omega arith) (one_more set c n x.0 s.0 old new s.1 x.1 served one.0 one.1)
 
-pub walk_ends : (set : List Spaces) (c n count : ℕ) (plan : List PlanLine) → c < length set → IsCountAt set c count → n ≡ count → HasServed set c n plan → HasServed set (c + 1) 0 plan
+pub walk_ends : (set : LinkSet) (c n count : ℕ) (plan : List PlanLine) → c < length set.spaces → IsCountAt set c count → n ≡ count → HasServed set c n plan → HasServed set (c + 1) 0 plan
 walk_ends set c n count plan h k e served =
-    let s = got_at set c h in
+    let s = got_at set.spaces c h in
     subst (λ m. HasServed set m 0 plan) (omega arith) (next_component set c s.0 plan s.1 (subst (λ m. HasServed set c m plan) (e ∙ k s.0 s.1) served))
 
 -- ---- what it comes to
 
-pub linked_whole : (set : List Spaces) (plan : List PlanLine) → 0 < length set → length set ≤ MAX_COMPONENTS → HasServed set (length set) 0 plan → CanBeLinked set
+pub linked_whole : (set : LinkSet) (plan : List PlanLine) → 0 < length set.spaces → length set.spaces ≤ MAX_COMPONENTS → HasServed set (length set.spaces) 0 plan → CanBeLinked set
 linked_whole set plan some few h = record { some = some; few = few; served = subst (AllByRecursion (IsServed set)) (all_before set) h.served }
 
-pub plan_whole : (set : List Spaces) (plan : List PlanLine) → HasServed set (length set) 0 plan → plan ≡ plan_of set
+pub plan_whole : (set : LinkSet) (plan : List PlanLine) → HasServed set (length set.spaces) 0 plan → plan ≡ plan_of set
 plan_whole set plan h = h.lines ∙ ap (lines_of set) (all_before set)
 
 -- the reasons for which an export does not serve
@@ -222,7 +222,7 @@ IsOfItem reason.DifferentType = ⊤
 IsOfItem reason.DifferentResource = ⊤
 IsOfItem reason.Memory = ⊥
 
-of_item : (set : List Spaces) (c d : ℕ) (w : ItemTy) (o : Option ItemTy) (r : LinkReason) → IsUnserved set c w d o r → IsOfItem r
+of_item : (set : LinkSet) (c d : ℕ) (w : ItemTy) (o : Option ItemTy) (r : LinkReason) → IsUnserved set c w d o r → IsOfItem r
 of_item set c d w None reason.Empty h = h
 of_item set c d w None reason.TooMany h = h
 of_item set c d w None reason.NoProvider h = h
@@ -240,13 +240,13 @@ of_item set c d w (Some x) reason.DifferentType h = tt
 of_item set c d w (Some x) reason.DifferentResource h = tt
 of_item set c d w (Some x) reason.Memory h = h
 
-of_extern : (set : List Spaces) (c d : ℕ) (x : ExternTy) (e : ExportDef) (r : LinkReason) → IsExternUnserved set c x d e r → IsOfItem r
+of_extern : (set : LinkSet) (c d : ℕ) (x : ExternTy) (e : ExportDef) (r : LinkReason) → IsExternUnserved set c x d e r → IsOfItem r
 of_extern set c d (extern.func f) (exported_func g) r h = subst IsOfItem (sym h.0) tt
 of_extern set c d (extern.func f) (exported_instance ms) r h = subst IsOfItem (sym h) tt
 of_extern set c d (extern.instance is) (exported_func g) r h = subst IsOfItem (sym h) tt
 of_extern set c d (extern.instance is) (exported_instance ms) r h = of_item set c d h.0.desc (item_under ms h.0.name) r h.2
 
-pub first_fault : (set : List Spaces) (c n : ℕ) (r : LinkReason) → 0 < length set → length set ≤ MAX_COMPONENTS → IsFirstOf set c n r → IsLinkFault set c n r
+pub first_fault : (set : LinkSet) (c n : ℕ) (r : LinkReason) → 0 < length set.spaces → length set.spaces ≤ MAX_COMPONENTS → IsFirstOf set c n r → IsLinkFault set c n r
 first_fault set c n reason.Empty some few f = absurd (of_extern set f.import.component f.fails.link.component f.import.item.desc f.fails.export reason.Empty f.fails.fails)
 first_fault set c n reason.TooMany some few f = absurd (of_extern set f.import.component f.fails.link.component f.import.item.desc f.fails.export reason.TooMany f.fails.fails)
 first_fault set c n reason.Memory some few f = of_extern set f.import.component f.fails.link.component f.import.item.desc f.fails.export reason.Memory f.fails.fails
@@ -256,33 +256,37 @@ first_fault set c n reason.MissingExport some few f = record { some = some; few 
 first_fault set c n reason.DifferentType some few f = record { some = some; few = few; import = f.import; first = f.first; component_is = f.component_is; number_is = f.number_is; fails = f.fails }
 first_fault set c n reason.DifferentResource some few f = record { some = some; few = few; import = f.import; first = f.first; component_is = f.component_is; number_is = f.number_is; fails = f.fails }
 
-pub fault_whole : (set : List Spaces) (f : LinkFault) → 0 < length set → length set ≤ MAX_COMPONENTS → IsWalkFault set f → ((f.reason ≡ reason.Memory) × AreServedBefore set f.component f.import) ⊎ IsLinkFault set f.component f.import f.reason
+pub fault_whole : (set : LinkSet) (f : LinkFault) → 0 < length set.spaces → length set.spaces ≤ MAX_COMPONENTS → IsWalkFault set f → ((f.reason ≡ reason.Memory) × AreServedBefore set f.component f.import) ⊎ IsLinkFault set f.component f.import f.reason
 fault_whole set f some few (inl m) = inl m
 fault_whole set f some few (inr g) = inr (first_fault set f.component f.import f.reason some few g)
 
-pub only_memory : (set : List Spaces) (f : LinkFault) → (CanBeLinked set → IsLinkFault set f.component f.import f.reason → ⊥) → 0 < length set → length set ≤ MAX_COMPONENTS → IsWalkFault set f → CanBeLinked set → f.reason ≡ reason.Memory
+pub only_memory : (set : LinkSet) (f : LinkFault) → (CanBeLinked set → IsLinkFault set f.component f.import f.reason → ⊥) → 0 < length set.spaces → length set.spaces ≤ MAX_COMPONENTS → IsWalkFault set f → CanBeLinked set → f.reason ≡ reason.Memory
 only_memory set f never some few (inl m) can = m.0
 only_memory set f never some few (inr g) can = absurd (never can (first_fault set f.component f.import f.reason some few g))
 
 -- ---- of components
 
-pub linked_set : (cs ds : List Checked) (plan : List PlanLine) → ds ≡ cs → 0 < length cs → length cs ≤ MAX_COMPONENTS → HasServed (set_of ds) (length ds) 0 plan → CanBeLinked (set_of cs)
-linked_set cs ds plan same some few h =
+pub linked_set : (cs ds : List Checked) (sees : Sees) (plan : List PlanLine) → ds ≡ cs → 0 < length cs → length cs ≤ MAX_COMPONENTS → HasServed (seen_by sees (spaces_of_all ds)) (length ds) 0 plan → CanBeLinked (seen_by sees (spaces_of_all cs))
+linked_set cs ds sees plan same some few h =
     let l = set_length cs in
-    let g : HasServed (set_of cs) (length cs) 0 plan = subst (λ xs. HasServed (set_of xs) (length xs) 0 plan) same h in
-    linked_whole (set_of cs) plan (omega (arith, l)) (omega (arith, l)) (subst (λ n. HasServed (set_of cs) n 0 plan) (sym l) g)
+    let set = seen_by sees (spaces_of_all cs) in
+    let g : HasServed set (length cs) 0 plan = subst (λ xs. HasServed (seen_by sees (spaces_of_all xs)) (length xs) 0 plan) same h in
+    linked_whole set plan (omega (arith, l)) (omega (arith, l)) (subst (λ n. HasServed set n 0 plan) (sym l) g)
 
-pub plan_set : (cs ds : List Checked) (plan : List PlanLine) → ds ≡ cs → HasServed (set_of ds) (length ds) 0 plan → plan ≡ plan_of (set_of cs)
-plan_set cs ds plan same h =
-    let g : HasServed (set_of cs) (length cs) 0 plan = subst (λ xs. HasServed (set_of xs) (length xs) 0 plan) same h in
-    plan_whole (set_of cs) plan (subst (λ n. HasServed (set_of cs) n 0 plan) (sym (set_length cs)) g)
+pub plan_set : (cs ds : List Checked) (sees : Sees) (plan : List PlanLine) → ds ≡ cs → HasServed (seen_by sees (spaces_of_all ds)) (length ds) 0 plan → plan ≡ plan_of (seen_by sees (spaces_of_all cs))
+plan_set cs ds sees plan same h =
+    let set = seen_by sees (spaces_of_all cs) in
+    let g : HasServed set (length cs) 0 plan = subst (λ xs. HasServed (seen_by sees (spaces_of_all xs)) (length xs) 0 plan) same h in
+    plan_whole set plan (subst (λ n. HasServed set n 0 plan) (sym (set_length cs)) g)
 
-pub fault_set : (cs ds : List Checked) (f : LinkFault) → ds ≡ cs → 0 < length cs → length cs ≤ MAX_COMPONENTS → IsWalkFault (set_of ds) f → ((f.reason ≡ reason.Memory) × AreServedBefore (set_of cs) f.component f.import) ⊎ IsLinkFault (set_of cs) f.component f.import f.reason
-fault_set cs ds f same some few h =
+pub fault_set : (cs ds : List Checked) (sees : Sees) (f : LinkFault) → ds ≡ cs → 0 < length cs → length cs ≤ MAX_COMPONENTS → IsWalkFault (seen_by sees (spaces_of_all ds)) f
+    → ((f.reason ≡ reason.Memory) × AreServedBefore (seen_by sees (spaces_of_all cs)) f.component f.import) ⊎ IsLinkFault (seen_by sees (spaces_of_all cs)) f.component f.import f.reason
+fault_set cs ds sees f same some few h =
     let l = set_length cs in
-    fault_whole (set_of cs) f (omega (arith, l)) (omega (arith, l)) (subst (λ xs. IsWalkFault (set_of xs) f) same h)
+    fault_whole (seen_by sees (spaces_of_all cs)) f (omega (arith, l)) (omega (arith, l)) (subst (λ xs. IsWalkFault (seen_by sees (spaces_of_all xs)) f) same h)
 
-pub memory_set : (cs ds : List Checked) (f : LinkFault) → (CanBeLinked (set_of cs) → IsLinkFault (set_of cs) f.component f.import f.reason → ⊥) → ds ≡ cs → 0 < length cs → length cs ≤ MAX_COMPONENTS → IsWalkFault (set_of ds) f → CanBeLinked (set_of cs) → f.reason ≡ reason.Memory
-memory_set cs ds f never same some few h can =
+pub memory_set : (cs ds : List Checked) (sees : Sees) (f : LinkFault) → (CanBeLinked (seen_by sees (spaces_of_all cs)) → IsLinkFault (seen_by sees (spaces_of_all cs)) f.component f.import f.reason → ⊥) → ds ≡ cs → 0 < length cs → length cs ≤ MAX_COMPONENTS
+    → IsWalkFault (seen_by sees (spaces_of_all ds)) f → CanBeLinked (seen_by sees (spaces_of_all cs)) → f.reason ≡ reason.Memory
+memory_set cs ds sees f never same some few h can =
     let l = set_length cs in
-    only_memory (set_of cs) f never (omega (arith, l)) (omega (arith, l)) (subst (λ xs. IsWalkFault (set_of xs) f) same h) can
+    only_memory (seen_by sees (spaces_of_all cs)) f never (omega (arith, l)) (omega (arith, l)) (subst (λ xs. IsWalkFault (seen_by sees (spaces_of_all xs)) f) same h) can

@@ -3,7 +3,7 @@ use Rattle.std.specs.Prelude.{ℕ, List, [], ◌++◌, slice_get, take}
 use Rattle.std.specs.List.{AllByRecursion}
 use Rattle.std.specs.Option.{option_map_or}
 use Rattle.cm_validate_model.specs.Spaces.{Spaces}
-use Rattle.cm_match_model.specs.Imports.{ImportAt, all_imports_from, imports_from}
+use Rattle.cm_match_model.specs.Imports.{ImportAt, LinkSet, all_imports_from, imports_from}
 use Rattle.cm_match_model.specs.Links.{IsServed}
 
 -- the imports of one component
@@ -17,6 +17,6 @@ imports_before set component number =
     all_imports_from 0 (take component set) ++ take number (imports_at set component)
 
 -- all imports before one are served
-abbrev pub AreServedBefore : List Spaces → ℕ → ℕ → Type 0
+abbrev pub AreServedBefore : LinkSet → ℕ → ℕ → Type 0
 AreServedBefore set component number =
-    AllByRecursion (IsServed set) (imports_before set component number)
+    AllByRecursion (IsServed set) (imports_before set.spaces component number)

@@ -8,15 +8,15 @@ use Rattle.std.specs.Option.{option_and_then}
 use Rattle.std.specs.Ordering.{is_eq, nat_cmp, ordering_then}
 use Rattle.std.specs.declared.cmp.Ordering.{Ordering}
 use Rattle.cm_types.specs.Signatures.{NamedExtern}
-use Rattle.cm_validate_model.specs.Spaces.{Spaces}
 use Rattle.cm_validate_items.specs.Shared.{AreShared, exported_instance_in, import_type_in}
 use Rattle.cm_validate_items.specs.declared.shared.Shared.{Shared}
 use Rattle.cm_match_serving.specs.cm_validate_spaces.Checked.{spaces_in}
 use Rattle.cm_match_serving.specs.cm_validate_spaces.declared.checked.Checked.{Checked}
 use Rattle.cm_match_model.specs.declared.component.Link.{Link}
-use Rattle.cm_match_model.specs.Imports.{import_at, import_in, links_of}
+use Rattle.cm_match_model.specs.Imports.{LinkSet, import_at, import_in, links_of}
 use Rattle.cm_match_model.specs.Links.{IsServed}
-use Rattle.cm_match_serving.specs.Sets.{set_of}
+use Rattle.cm_match_serving.specs.Linkings.{components_in, set_in}
+use Rattle.cm_match_serving.specs.declared.linking.Linking.{Linking}
 use Rattle.cm_match_serving.specs.Tables.{AreKnown}
 use Rattle.cm_match.specs.declared.judged.Judged.{Judged}
 
@@ -55,7 +55,7 @@ abbrev pub pair_eq : Pair → Pair → Bool
 pair_eq p q = is_eq (pair_cmp p q)
 
 -- it is that of this import and of the export that it is linked to
-pub record IsPairOf (set : List Spaces) (tables : List Shared) (component import : ℕ) (p : Pair)
+pub record IsPairOf (set : LinkSet) (tables : List Shared) (component import : ℕ) (p : Pair)
     : Type 0 where
   pub importer : p.0.0 ≡ component
   pub ty : type_of_import tables component import ≡ Some p.0.1
@@ -65,20 +65,20 @@ pub record IsPairOf (set : List Spaces) (tables : List Shared) (component import
   pub instance : instance_of_export tables link ≡ Some p.1.1
 
 -- some import of this pair is served
-pub record IsServedPair (set : List Spaces) (tables : List Shared) (p : Pair) : Type 0 where
+pub record IsServedPair (set : LinkSet) (tables : List Shared) (p : Pair) : Type 0 where
   pub import : ℕ
   pub item : NamedExtern
-  pub there : import_in set p.0.0 import ≡ Some item
+  pub there : import_in set.spaces p.0.0 import ≡ Some item
   pub pair : IsPairOf set tables p.0.0 import p
   pub served : IsServed set (import_at p.0.0 import item)
 
 -- ---- what is judged
 
 -- The types that have numbers, the tables of the components, and pairs that serve.
-pub record AreJudged (cs : List Checked) (w : Judged) : Type 0 where
-  pub known : AreKnown cs w.tables
-  pub tables : AreTables cs w.shared.items
-  pub served : AllByRecursion (IsServedPair (set_of cs) w.shared.items) w.served.keys
+pub record AreJudged (l : Linking) (w : Judged) : Type 0 where
+  pub known : AreKnown l w.tables
+  pub tables : AreTables (components_in l) w.shared.items
+  pub served : AllByRecursion (IsServedPair (set_in l) w.shared.items) w.served.keys
 
 -- there is a pair, and it is among those that serve
 abbrev pub IsNoted : Judged → Option Pair → Type 0

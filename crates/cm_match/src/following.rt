@@ -31,7 +31,7 @@ fn exported_func<'a>(
 ) -> Option<FuncEntry<'a>>
     ensures is { option_map (func_def (funcs_at (components_in linking.now) link.component)) result
         ≡ option_and_then (func_under (option_map (λ n. n.now) name.entry))
-        (export_in (set_in linking.now) link.component link.export) }
+        (export_in (set_in linking.now).spaces link.component link.export) }
     ensures there { IfSome result (λ f. is_func_there
         (length (funcs_at (components_in linking.now) link.component)) f ≡ true) }
 {
@@ -47,10 +47,10 @@ fn exported_under<'a>(
     import: usize,
     item: usize,
 ) -> Option<FuncEntry<'a>>
-    ensures is { (s : Spaces) → slice_get (set_in linking.now) component ≡ Some s
+    ensures is { (s : Spaces) → slice_get (set_in linking.now).spaces component ≡ Some s
         → option_map (func_def (funcs_at (components_in linking.now) link.component)) result
         ≡ option_and_then (func_for s import (Some item))
-        (export_in (set_in linking.now) link.component link.export) }
+        (export_in (set_in linking.now).spaces link.component link.export) }
     ensures there { IfSome result (λ f. is_func_there
         (length (funcs_at (components_in linking.now) link.component)) f ≡ true) }
 {
@@ -66,10 +66,10 @@ fn linked_func<'a>(
     import: usize,
     item: Option<usize>,
 ) -> Option<FuncEntry<'a>>
-    ensures is { (s : Spaces) → slice_get (set_in linking.now) component ≡ Some s
+    ensures is { (s : Spaces) → slice_get (set_in linking.now).spaces component ≡ Some s
         → option_map (func_def (funcs_at (components_in linking.now) link.component)) result
         ≡ option_and_then (func_for s import item)
-        (export_in (set_in linking.now) link.component link.export) }
+        (export_in (set_in linking.now).spaces link.component link.export) }
     ensures there { IfSome result (λ f. is_func_there
         (length (funcs_at (components_in linking.now) link.component)) f ≡ true) }
 {
@@ -87,7 +87,8 @@ fn serving_func<'a>(
     item: Option<usize>,
 ) -> Option<ServingFunc<'a>>
     ensures is { option_map (func_at (components_in linking.now)) result
-        ≡ serving_func (set_in linking.now) (links_of (set_in linking.now)) component import item }
+        ≡ serving_func (set_in linking.now).spaces (links_of (set_in linking.now))
+        component import item }
     ensures there { IfSome result (λ f. is_func_there
         (length (funcs_at (components_in linking.now) f.component)) f.func ≡ true) }
 {
@@ -108,7 +109,7 @@ pub(crate) fn target_within<'a>(
     item: Option<usize>,
 ) -> Option<Target<'a>>
     ensures target { option_map (target_def (components_in linking.now)) result
-        ≡ target_within count (set_in linking.now) (links_of (set_in linking.now))
+        ≡ target_within count (set_in linking.now).spaces (links_of (set_in linking.now))
         component import item }
     ensures there { IfSome result (λ t. is_there
         (length (funcs_at (components_in linking.now) t.component)) t.ty ≡ true) }

@@ -54,14 +54,15 @@ impl Judged {
     ghost use Rattle.std.specs.Prelude.{IfSome, IsTrue, Some};
     ghost use Rattle.cm_types.specs.Signatures.{NamedExtern};
     ghost use Rattle.cm_match_model.specs.Imports.{import_at, import_in};
-    ghost use Rattle.cm_match_serving.specs.Linkings.{components_in, set_in};
+    ghost use Rattle.cm_match_serving.specs.Linkings.{set_in};
     ghost use Rattle.cm_match.specs.Pairs.{AreJudged, IsNoted, IsPairOf};
     ghost use Rattle.cm_match_serving.specs.Answers.{JudgesImport};
 
-    /// No import of these components is judged yet. `AllocError` comes where there is no memory.
-    pub fn new(alloc: Global, components: &[Checked<'_>]) -> Result<Judged, AllocError>
-        ensures { IfOk result (AreJudged components.now) }
+    /// No import of this set is judged yet. `AllocError` comes where there is no memory.
+    pub fn new(alloc: Global, linking: &Linking<'_, '_>) -> Result<Judged, AllocError>
+        ensures { IfOk result (AreJudged linking.now) }
     {
+        let components = linking.components();
         Ok(Judged {
             tables: Tables::new(alloc, components.len())?,
             shared: shared_in(alloc, components)?,
@@ -102,11 +103,11 @@ impl Judged {
         component: usize,
         import: usize,
     ) -> Result<Option<LinkReason>, AllocError>
-        requires { AreJudged (components_in linking.now) self.old }
+        requires { AreJudged linking.now self.old }
         ensures fault { IfOk result (λ r. (x : NamedExtern)
-            → import_in (set_in linking.now) component import ≡ Some x
+            → import_in (set_in linking.now).spaces component import ≡ Some x
             → JudgesImport (set_in linking.now) (import_at component import x) r) }
-        ensures known { OnOk result (AreJudged (components_in linking.now) self.new) }
+        ensures known { OnOk result (AreJudged linking.now self.new) }
     {
         resources_are_counted();
         moves_of_what_is_counted();

@@ -36,11 +36,12 @@ impl<'a> Linked<'a> {
         &self.components
     }
 
-    /// The components with the candidates of their imports.
+    /// The components with what is chosen for their imports, and the candidates of those.
     fn linking(&self) -> Linking<'_, 'a>
-        ensures { linking.components_in result ≡ components_in self.now }
+        ensures components { linking.components_in result ≡ components_in self.now }
+        ensures set { linking.set_in result ≡ set_in self.now }
     {
-        Linking::new(&self.components, &self.choices)
+        Linking::new(&self.components, &self.choices, &self.candidates)
     }
 
     /// The lifted function that an imported function comes to, through every component that exports
@@ -51,7 +52,8 @@ impl<'a> Linked<'a> {
     /// At most 15 links are followed, and no memory is taken.
     pub fn target(&self, component: u32, import: usize, item: Option<usize>) -> Option<Target<'a>>
         ensures target { option_map (target_def (components_in self.now)) result
-            ≡ targets_of (set_in self.now) (links_of (set_in self.now)) component import item }
+            ≡ targets_of (set_in self.now).spaces (links_of (set_in self.now))
+            component import item }
         ensures there { IfSome result (λ t.
             is_there (length (funcs_at (components_in self.now) t.component)) t.ty ≡ true) }
         ensures unmoved { IfSome result (λ t. t.ty.by ≡ None) }
@@ -64,7 +66,7 @@ impl<'a> Linked<'a> {
     /// component that defines it, and its number there; None where there is no such resource. At
     /// most 15 links are followed, and no memory is taken.
     pub fn resource(&self, component: u32, number: u64) -> Option<ResourceId>
-        ensures { result ≡ origin_of (set_in self.now) (links_of (set_in self.now))
+        ensures { result ≡ origin_of (set_in self.now).spaces (links_of (set_in self.now))
             (resource_of component number) }
     {
         self.linking().origin(ResourceId { component, number })

@@ -21,7 +21,7 @@ fn add_line(
     ensures { OnOk result (AddsLine (set_in linking.now) importer import
         plan.old.items plan.new.items) }
 {
-    match linking.choice(importer, import) {
+    match linking.candidate(importer, import) {
         Some(Candidate::One { component, export }) => plan.push(PlanLine {
             importer,
             import,
@@ -42,11 +42,11 @@ fn walk_import(
     component: usize,
     import: usize,
 ) -> Result<(), LinkReason>
-    requires { AreJudged (components_in linking.now) judged.old }
+    requires { AreJudged linking.now judged.old }
     ensures served { OnOk result (Serves (set_in linking.now) component import
         plan.old.items plan.new.items) }
     ensures stops { IfErr result (λ r. Stops (set_in linking.now) component import r) }
-    ensures known { OnOk result (AreJudged (components_in linking.now) judged.new) }
+    ensures known { OnOk result (AreJudged linking.now judged.new) }
 {
     match judged.import_fault(alloc, linking, component, import) {
         Err(AllocError) => Err(LinkReason::Memory),
@@ -60,7 +60,7 @@ fn walk_import(
 
 /// How many imports a component has.
 fn import_count(linking: &Linking<'_, '_>, component: usize) -> usize
-    ensures { (s : Spaces) → slice_get (set_in linking.now) component ≡ Some s
+    ensures { (s : Spaces) → slice_get (set_in linking.now).spaces component ≡ Some s
         → result ≡ length s.imports }
 {
     match linking.components().get(component) {
@@ -77,13 +77,13 @@ fn walk_imports(
     plan: &mut Vec<PlanLine>,
     component: usize,
 ) -> Result<(), LinkFault>
-    requires known { AreJudged (components_in linking.now) judged.old }
+    requires known { AreJudged linking.now judged.old }
     requires there { component < length (components_in linking.now) }
     requires before { HasServed (set_in linking.now) component 0 plan.old.items }
     ensures served { OnOk result (HasServed (set_in linking.now) (component + 1) 0
         plan.new.items) }
     ensures fault { IfErr result (λ f. IsWalkFault (set_in linking.now) f) }
-    ensures known { OnOk result (AreJudged (components_in linking.now) judged.new) }
+    ensures known { OnOk result (AreJudged linking.now judged.new) }
 {
     for import in 0..import_count(linking, component) {
         match walk_import(alloc, linking, judged, plan, component, import) {
@@ -109,13 +109,13 @@ fn walk_component(
     plan: &mut Vec<PlanLine>,
     component: usize,
 ) -> Result<(), LinkFault>
-    requires known { AreJudged (components_in linking.now) judged.old }
+    requires known { AreJudged linking.now judged.old }
     requires there { component < length (components_in linking.now) }
     requires before { HasServed (set_in linking.now) component 0 plan.old.items }
     ensures served { OnOk result (HasServed (set_in linking.now) (component + 1) 0
         plan.new.items) }
     ensures fault { IfErr result (λ f. IsWalkFault (set_in linking.now) f) }
-    ensures known { OnOk result (AreJudged (components_in linking.now) judged.new) }
+    ensures known { OnOk result (AreJudged linking.now judged.new) }
 {
     match plan.reserve(import_count(linking, component)) {
         Ok(()) => walk_imports(alloc, linking, judged, plan, component),
@@ -134,7 +134,7 @@ pub(crate) fn walk(alloc: Global, linking: &Linking<'_, '_>) -> Result<Vec<PlanL
     ensures fault { IfErr result (λ f. IsWalkFault (set_in linking.now) f) }
 {
     let count = linking.components().len();
-    let Ok(mut judged) = Judged::new(alloc, linking.components()) else {
+    let Ok(mut judged) = Judged::new(alloc, linking) else {
         return Err(LinkFault {
             component: 0,
             import: 0,

@@ -13,7 +13,7 @@ use Rattle.cm_validate_model.specs.Spaces.{Spaces}
 use Rattle.cm_validate_model.specs.Counted.{IsAmongFirst}
 use Rattle.cm_validate_model.specs.CountedSpaces.{AreSpacesCounted, fresh_numbers, fresh_of, numbers_from}
 use Rattle.cm_match_model.specs.Origins.{AreOrigins, origin_of}
-use Rattle.cm_match_model.specs.Imports.{links_of}
+use Rattle.cm_match_model.specs.Imports.{LinkSet, links_of}
 use Rattle.cm_match_model.specs.Serving.{IsItemServed, Serves, standing}
 use Rattle.cm_match_model.specs.Alike.{AreAllAlike, AreAlike, IsLinkedTo}
 use Rattle.cm_match_model.specs.Brought.{AreBrought, AreInOrder, BringsInOrder, IsBrought, IsInOrder, OwnsWhatItBrings, behind, items_from}
@@ -74,8 +74,8 @@ tail (m ∷ ms) = ms
 
 -- ---- two imports
 
-module _ (set : List Spaces) (counted : (n : ℕ) (p : Spaces) → slice_get set n ≡ Some p → AreSpacesCounted p)
-    (origins : AreOrigins set (links_of set) (origin_of set (links_of set))) (c : ℕ) (s : Spaces) (there : slice_get set c ≡ Some s)
+module _ (set : LinkSet) (counted : (n : ℕ) (p : Spaces) → slice_get set.spaces n ≡ Some p → AreSpacesCounted p)
+    (origins : AreOrigins set.spaces (links_of set) (origin_of set.spaces (links_of set))) (c : ℕ) (s : Spaces) (there : slice_get set.spaces c ≡ Some s)
     (brings : (import : ℕ) (x : NamedExtern) (items : List NamedItem) → slice_get s.imports import ≡ Some x → x.desc ≡ extern.instance items → BringsInOrder s.resources import items)
     (j k d : ℕ) (t : InstanceTy) (a b : ℕ) (ms : List NamedMember) (v : IsLinkedTo set c j t a d (exported_instance ms)) (w : IsLinkedTo set c k t b d (exported_instance ms)) where
   abbrev to_a : ResourceId → ResourceId
@@ -108,7 +108,7 @@ module _ (set : List Spaces) (counted : (n : ℕ) (p : Spaces) → slice_get set
       let serves : Serves set c (fresh_resource (to_a r)) d served.0 = subst (λ x. Serves set c (replaced_desc to_a x) d served.0) is served.2 in
       let q = resource_under set c d ms i.name (to_a r) served.0 served.1 serves in
       let o = provided_origin set counted origins c s there v.link ms i.name q.0 v.exported q.1 in
-      let at_d = subst (λ l. origin_of set (links_of set) (record { component = l; number = q.0 }) ≡ Some o.0) v.to o.1 in
+      let at_d = subst (λ l. origin_of set.spaces (links_of set) (record { component = l; number = q.0 }) ≡ Some o.0) v.to o.1 in
       stands_as set counted origins c s there t d ms j a v n i (to_a r) q.0 o.0 e (brought_as j a n order_a i r e is) q.1 at_d
       ∙ sym (stands_as set counted origins c s there t d ms k b w n i (to_b r) q.0 o.0 e (brought_as k b n order_b i r e is) q.1 at_d)
 

@@ -10,7 +10,7 @@ use Rattle.cm_match_model.specs.declared.component.Link.{Link}
 use Rattle.cm_match_model.specs.declared.fault.LinkReason.{LinkReason}
 use Rattle.cm_match_model.specs.declared.fault.LinkReason.TheVariants as reason
 use Rattle.cm_match_model.specs.declared.plan.TheConstants.{MAX_COMPONENTS}
-use Rattle.cm_match_model.specs.Imports.{ImportAt, candidates, export_in, imports_of, only_link}
+use Rattle.cm_match_model.specs.Imports.{LinkSet, ImportAt, candidates, export_in, imports_of, only_link}
 use Rattle.cm_match_model.specs.Serving.{IsExternUnserved, IsFirst, IsItemServed, IsItemUnserved, IsUnserved, Serves, ServesExtern, are_known_resources, item_under}
 use Rattle.cm_match_model.specs.Links.{CanBeLinked, IsFirstNotServed, IsLinkFault, IsNotServed, IsNotServedBy, IsServed}
 use Rattle.cm_match_model.proofs.ListLemmas.{one_first}
@@ -30,7 +30,7 @@ same_first is_so xs x y f g h k = one_first is_so f.front g.front f.rest g.rest 
 
 -- ---- items
 
-unserved_by : (set : List Spaces) (c : ℕ) (w : ItemTy) (d : ℕ) (h : ItemTy) (r : LinkReason) → IsUnserved set c w d (Some h) r
+unserved_by : (set : LinkSet) (c : ℕ) (w : ItemTy) (d : ℕ) (h : ItemTy) (r : LinkReason) → IsUnserved set c w d (Some h) r
     → ((r ≡ reason.DifferentType) × (are_known_resources w h ≡ false)) ⊎ ((r ≡ reason.DifferentResource) × (are_known_resources w h ≡ true))
 unserved_by set c w d h reason.Empty u = absurd u
 unserved_by set c w d h reason.TooMany u = absurd u
@@ -41,7 +41,7 @@ unserved_by set c w d h reason.DifferentType u = inl (refl, u.1)
 unserved_by set c w d h reason.DifferentResource u = inr (refl, u.1)
 unserved_by set c w d h reason.Memory u = absurd u
 
-does_not_serve : (set : List Spaces) (c : ℕ) (w : ItemTy) (d : ℕ) (h : ItemTy) (r : LinkReason) → IsUnserved set c w d (Some h) r → Serves set c w d h → ⊥
+does_not_serve : (set : LinkSet) (c : ℕ) (w : ItemTy) (d : ℕ) (h : ItemTy) (r : LinkReason) → IsUnserved set c w d (Some h) r → Serves set c w d h → ⊥
 does_not_serve set c w d h reason.Empty u = absurd u
 does_not_serve set c w d h reason.TooMany u = absurd u
 does_not_serve set c w d h reason.NoProvider u = absurd u
@@ -51,7 +51,7 @@ does_not_serve set c w d h reason.DifferentType u = u.0
 does_not_serve set c w d h reason.DifferentResource u = u.0
 does_not_serve set c w d h reason.Memory u = absurd u
 
-missing : (set : List Spaces) (c : ℕ) (w : ItemTy) (d : ℕ) (r : LinkReason) → IsUnserved set c w d None r → r ≡ reason.MissingExport
+missing : (set : LinkSet) (c : ℕ) (w : ItemTy) (d : ℕ) (r : LinkReason) → IsUnserved set c w d None r → r ≡ reason.MissingExport
 missing set c w d reason.Empty u = absurd u
 missing set c w d reason.TooMany u = absurd u
 missing set c w d reason.NoProvider u = absurd u
@@ -61,7 +61,7 @@ missing set c w d reason.DifferentType u = absurd u
 missing set c w d reason.DifferentResource u = absurd u
 missing set c w d reason.Memory u = absurd u
 
-one_item_reason : (set : List Spaces) (c : ℕ) (w : ItemTy) (d : ℕ) (o : Option ItemTy) (q r : LinkReason) → IsUnserved set c w d o q → IsUnserved set c w d o r → q ≡ r
+one_item_reason : (set : LinkSet) (c : ℕ) (w : ItemTy) (d : ℕ) (o : Option ItemTy) (q r : LinkReason) → IsUnserved set c w d o q → IsUnserved set c w d o r → q ≡ r
 one_item_reason set c w d None q r u v = missing set c w d q u ∙ sym (missing set c w d r v)
 one_item_reason set c w d (Some h) q r u v = elim (unserved_by set c w d h q u) [
   | inl a ↦ elim (unserved_by set c w d h r v) [
@@ -74,22 +74,22 @@ one_item_reason set c w d (Some h) q r u v = elim (unserved_by set c w d h q u) 
   ]
 ]
 
-served_or_not : (set : List Spaces) (c d : ℕ) (w : ItemTy) (o : Option ItemTy) (r : LinkReason) → (h : ItemTy) × (o ≡ Some h) × Serves set c w d h → IsUnserved set c w d o r → ⊥
+served_or_not : (set : LinkSet) (c d : ℕ) (w : ItemTy) (o : Option ItemTy) (r : LinkReason) → (h : ItemTy) × (o ≡ Some h) × Serves set c w d h → IsUnserved set c w d o r → ⊥
 served_or_not set c d w None r s u = cc s.1
 served_or_not set c d w (Some h) r s u = does_not_serve set c w d h r u (subst (Serves set c w d) (sym (some_is h s.0 s.1)) s.2)
 
-item_or_not : (set : List Spaces) (c d : ℕ) (ms : List NamedMember) (i : NamedItem) (r : LinkReason) → IsItemServed set c d ms i → IsItemUnserved set c d ms i r → ⊥
+item_or_not : (set : LinkSet) (c d : ℕ) (ms : List NamedMember) (i : NamedItem) (r : LinkReason) → IsItemServed set c d ms i → IsItemUnserved set c d ms i r → ⊥
 item_or_not set c d ms i r s u = served_or_not set c d i.desc (item_under ms i.name) r s u
 
 -- ---- what is imported
 
-extern_or_not : (set : List Spaces) (c : ℕ) (x : ExternTy) (d : ℕ) (e : ExportDef) (r : LinkReason) → ServesExtern set c x d e → IsExternUnserved set c x d e r → ⊥
+extern_or_not : (set : LinkSet) (c : ℕ) (x : ExternTy) (d : ℕ) (e : ExportDef) (r : LinkReason) → ServesExtern set c x d e → IsExternUnserved set c x d e r → ⊥
 extern_or_not set c (extern.func f) d (exported_func g) r s u = u.1 s
 extern_or_not set c (extern.instance items) d (exported_instance ms) r s u = item_or_not set c d ms u.0 r (first_is_so (IsItemServed set c d ms) items u.0 s u.1) u.2
 extern_or_not set c (extern.func f) d (exported_instance ms) r s u = absurd s
 extern_or_not set c (extern.instance items) d (exported_func g) r s u = absurd s
 
-one_extern_reason : (set : List Spaces) (c : ℕ) (x : ExternTy) (d : ℕ) (e : ExportDef) (q r : LinkReason) → IsExternUnserved set c x d e q → IsExternUnserved set c x d e r → q ≡ r
+one_extern_reason : (set : LinkSet) (c : ℕ) (x : ExternTy) (d : ℕ) (e : ExportDef) (q r : LinkReason) → IsExternUnserved set c x d e q → IsExternUnserved set c x d e r → q ≡ r
 one_extern_reason set c (extern.func f) d (exported_func g) q r u v = u.0 ∙ sym v.0
 one_extern_reason set c (extern.func f) d (exported_instance ms) q r u v = u ∙ sym v
 one_extern_reason set c (extern.instance items) d (exported_func g) q r u v = u ∙ sym v
@@ -100,18 +100,18 @@ one_extern_reason set c (extern.instance items) d (exported_instance ms) q r u v
 
 -- ---- imports
 
-by_or_not : (set : List Spaces) (i : ImportAt) (r : LinkReason) → IsServed set i → IsNotServedBy set i r → ⊥
+by_or_not : (set : LinkSet) (i : ImportAt) (r : LinkReason) → IsServed set i → IsNotServedBy set i r → ⊥
 by_or_not set i r s u =
     let link : s.link ≡ u.link = some_is s.link u.link (sym s.linked ∙ u.linked) in
-    let there : export_in set u.link.component u.link.export ≡ Some s.export = subst (λ (l : Link). export_in set l.component l.export ≡ Some s.export) link s.exported in
+    let there : export_in set.spaces u.link.component u.link.export ≡ Some s.export = subst (λ (l : Link). export_in set.spaces l.component l.export ≡ Some s.export) link s.exported in
     let serves : ServesExtern set i.component i.item.desc u.link.component s.export = subst (λ (l : Link). ServesExtern set i.component i.item.desc l.component s.export) link s.serves in
     let export : s.export ≡ u.export = some_is s.export u.export (sym there ∙ u.exported) in
     extern_or_not set i.component i.item.desc u.link.component u.export r (subst (ServesExtern set i.component i.item.desc u.link.component) export serves) u.fails
 
-one_by_reason : (set : List Spaces) (i : ImportAt) (q r : LinkReason) → IsNotServedBy set i q → IsNotServedBy set i r → q ≡ r
+one_by_reason : (set : LinkSet) (i : ImportAt) (q r : LinkReason) → IsNotServedBy set i q → IsNotServedBy set i r → q ≡ r
 one_by_reason set i q r u v =
     let link : u.link ≡ v.link = some_is u.link v.link (sym u.linked ∙ v.linked) in
-    let there : export_in set v.link.component v.link.export ≡ Some u.export = subst (λ (l : Link). export_in set l.component l.export ≡ Some u.export) link u.exported in
+    let there : export_in set.spaces v.link.component v.link.export ≡ Some u.export = subst (λ (l : Link). export_in set.spaces l.component l.export ≡ Some u.export) link u.exported in
     let fails : IsExternUnserved set i.component i.item.desc v.link.component u.export q = subst (λ (l : Link). IsExternUnserved set i.component i.item.desc l.component u.export q) link u.fails in
     let export : u.export ≡ v.export = some_is u.export v.export (sym there ∙ v.exported) in
     one_extern_reason set i.component i.item.desc v.link.component v.export q r
@@ -125,11 +125,11 @@ no_link (e ∷ []) l h (inr k) = omega (arith, k)
 no_link (e ∷ f ∷ es) l h k = cc h
 
 -- how an import is not served
-Kinds : List Spaces → ImportAt → LinkReason → Type 0
+Kinds : LinkSet → ImportAt → LinkReason → Type 0
 Kinds set i r =
-    ((r ≡ reason.NoProvider) × (candidates set i.component i.item ≡ [])) ⊎ (((r ≡ reason.TwoProviders) × (1 < length (candidates set i.component i.item))) ⊎ IsNotServedBy set i r)
+    ((r ≡ reason.NoProvider) × (candidates set i.component i.number i.item ≡ [])) ⊎ (((r ≡ reason.TwoProviders) × (1 < length (candidates set i.component i.number i.item))) ⊎ IsNotServedBy set i r)
 
-kind : (set : List Spaces) (i : ImportAt) (r : LinkReason) → IsNotServed set i r → Kinds set i r
+kind : (set : LinkSet) (i : ImportAt) (r : LinkReason) → IsNotServed set i r → Kinds set i r
 unfolding Kinds
 kind set i reason.Empty u = inr (inr u)
 kind set i reason.TooMany u = inr (inr u)
@@ -140,32 +140,32 @@ kind set i reason.DifferentType u = inr (inr u)
 kind set i reason.DifferentResource u = inr (inr u)
 kind set i reason.Memory u = inr (inr u)
 
-import_or_not : (set : List Spaces) (i : ImportAt) (r : LinkReason) → IsServed set i → IsNotServed set i r → ⊥
+import_or_not : (set : LinkSet) (i : ImportAt) (r : LinkReason) → IsServed set i → IsNotServed set i r → ⊥
 unfolding Kinds
 import_or_not set i r s u = elim (kind set i r u) [
-  | inl k ↦ no_link (candidates set i.component i.item) s.link s.linked (inl k.1)
-  | inr (inl k) ↦ no_link (candidates set i.component i.item) s.link s.linked (inr k.1)
+  | inl k ↦ no_link (candidates set i.component i.number i.item) s.link s.linked (inl k.1)
+  | inr (inl k) ↦ no_link (candidates set i.component i.number i.item) s.link s.linked (inr k.1)
   | inr (inr k) ↦ by_or_not set i r s k
 ]
 
 none_or_two : {A : Type 0} (es : List A) → es ≡ [] → 1 < length es → ⊥
 none_or_two es h k = omega (arith, k, ap length h)
 
-one_kind : (set : List Spaces) (i : ImportAt) (q r : LinkReason) → Kinds set i q → Kinds set i r → q ≡ r
+one_kind : (set : LinkSet) (i : ImportAt) (q r : LinkReason) → Kinds set i q → Kinds set i r → q ≡ r
 unfolding Kinds
 one_kind set i q r (inl a) (inl b) = a.0 ∙ sym b.0
-one_kind set i q r (inl a) (inr (inl b)) = absurd (none_or_two (candidates set i.component i.item) a.1 b.1)
-one_kind set i q r (inl a) (inr (inr b)) = absurd (no_link (candidates set i.component i.item) b.link b.linked (inl a.1))
-one_kind set i q r (inr (inl a)) (inl b) = absurd (none_or_two (candidates set i.component i.item) b.1 a.1)
+one_kind set i q r (inl a) (inr (inl b)) = absurd (none_or_two (candidates set i.component i.number i.item) a.1 b.1)
+one_kind set i q r (inl a) (inr (inr b)) = absurd (no_link (candidates set i.component i.number i.item) b.link b.linked (inl a.1))
+one_kind set i q r (inr (inl a)) (inl b) = absurd (none_or_two (candidates set i.component i.number i.item) b.1 a.1)
 one_kind set i q r (inr (inl a)) (inr (inl b)) = a.0 ∙ sym b.0
-one_kind set i q r (inr (inl a)) (inr (inr b)) = absurd (no_link (candidates set i.component i.item) b.link b.linked (inr a.1))
-one_kind set i q r (inr (inr a)) (inl b) = absurd (no_link (candidates set i.component i.item) a.link a.linked (inl b.1))
-one_kind set i q r (inr (inr a)) (inr (inl b)) = absurd (no_link (candidates set i.component i.item) a.link a.linked (inr b.1))
+one_kind set i q r (inr (inl a)) (inr (inr b)) = absurd (no_link (candidates set i.component i.number i.item) b.link b.linked (inr a.1))
+one_kind set i q r (inr (inr a)) (inl b) = absurd (no_link (candidates set i.component i.number i.item) a.link a.linked (inl b.1))
+one_kind set i q r (inr (inr a)) (inr (inl b)) = absurd (no_link (candidates set i.component i.number i.item) a.link a.linked (inr b.1))
 one_kind set i q r (inr (inr a)) (inr (inr b)) = one_by_reason set i q r a b
 
-one_first_import : (set : List Spaces) (c d m n : ℕ) (q r : LinkReason) → IsFirstNotServed set c m q → IsFirstNotServed set d n r → (c ≡ d) × (m ≡ n) × (q ≡ r)
+one_first_import : (set : LinkSet) (c d m n : ℕ) (q r : LinkReason) → IsFirstNotServed set c m q → IsFirstNotServed set d n r → (c ≡ d) × (m ≡ n) × (q ≡ r)
 one_first_import set c d m n q r f g =
-    let same : f.import ≡ g.import = same_first (IsServed set) (imports_of set) f.import g.import f.first g.first (λ s. import_or_not set f.import q s f.fails) (λ s. import_or_not set g.import r s g.fails) in
+    let same : f.import ≡ g.import = same_first (IsServed set) (imports_of set.spaces) f.import g.import f.first g.first (λ s. import_or_not set f.import q s f.fails) (λ s. import_or_not set g.import r s g.fails) in
     let fails : IsNotServed set g.import q = subst (λ i. IsNotServed set i q) same f.fails in (
       sym f.component_is ∙ ap (λ (i : ImportAt). i.component) same ∙ g.component_is,
       sym f.number_is ∙ ap (λ (i : ImportAt). i.number) same ∙ g.number_is,
@@ -175,11 +175,11 @@ one_first_import set c d m n q r f g =
 -- ---- sets
 
 -- how a set can't be linked
-Faults : List Spaces → ℕ → ℕ → LinkReason → Type 0
+Faults : LinkSet → ℕ → ℕ → LinkReason → Type 0
 Faults set c n r =
-    ((r ≡ reason.Empty) × (set ≡ []) × (c ≡ 0) × (n ≡ 0)) ⊎ (((r ≡ reason.TooMany) × (MAX_COMPONENTS < length set) × (c ≡ 0) × (n ≡ 0)) ⊎ IsFirstNotServed set c n r)
+    ((r ≡ reason.Empty) × (set.spaces ≡ []) × (c ≡ 0) × (n ≡ 0)) ⊎ (((r ≡ reason.TooMany) × (MAX_COMPONENTS < length set.spaces) × (c ≡ 0) × (n ≡ 0)) ⊎ IsFirstNotServed set c n r)
 
-fault : (set : List Spaces) (c n : ℕ) (r : LinkReason) → IsLinkFault set c n r → Faults set c n r
+fault : (set : LinkSet) (c n : ℕ) (r : LinkReason) → IsLinkFault set c n r → Faults set c n r
 unfolding Faults
 fault set c n reason.Empty f = inl (refl, f.0, f.1, f.2)
 fault set c n reason.TooMany f = inr (inl (refl, f.0, f.1, f.2))
@@ -190,15 +190,15 @@ fault set c n reason.DifferentType f = inr (inr f)
 fault set c n reason.DifferentResource f = inr (inr f)
 fault set c n reason.Memory f = absurd f
 
-pub never_both : (set : List Spaces) (c n : ℕ) (r : LinkReason) → CanBeLinked set → IsLinkFault set c n r → ⊥
+pub never_both : (set : LinkSet) (c n : ℕ) (r : LinkReason) → CanBeLinked set → IsLinkFault set c n r → ⊥
 unfolding Faults
 never_both set c n r k f = elim (fault set c n r f) [
   | inl e ↦ omega (arith, k.some, ap length e.1)
   | inr (inl e) ↦ omega (arith, k.few, e.1)
-  | inr (inr e) ↦ import_or_not set e.import r (first_is_so (IsServed set) (imports_of set) e.import k.served e.first) e.fails
+  | inr (inr e) ↦ import_or_not set e.import r (first_is_so (IsServed set) (imports_of set.spaces) e.import k.served e.first) e.fails
 ]
 
-one_of_two : (set : List Spaces) (c d m n : ℕ) (q r : LinkReason) → Faults set c m q → Faults set d n r → (c ≡ d) × (m ≡ n) × (q ≡ r)
+one_of_two : (set : LinkSet) (c d m n : ℕ) (q r : LinkReason) → Faults set c m q → Faults set d n r → (c ≡ d) × (m ≡ n) × (q ≡ r)
 unfolding Faults
 one_of_two set c d m n q r (inl a) (inl b) = (a.2 ∙ sym b.2, a.3 ∙ sym b.3, a.0 ∙ sym b.0)
 one_of_two set c d m n q r (inl a) (inr (inl b)) = absurd (omega (arith, b.1, ap length a.1))
@@ -210,5 +210,5 @@ one_of_two set c d m n q r (inr (inr a)) (inl b) = absurd (omega (arith, a.some,
 one_of_two set c d m n q r (inr (inr a)) (inr (inl b)) = absurd (omega (arith, b.1, a.few))
 one_of_two set c d m n q r (inr (inr a)) (inr (inr b)) = one_first_import set c d m n q r a b
 
-pub one : (set : List Spaces) (c d m n : ℕ) (q r : LinkReason) → IsLinkFault set c m q → IsLinkFault set d n r → (c ≡ d) × (m ≡ n) × (q ≡ r)
+pub one : (set : LinkSet) (c d m n : ℕ) (q r : LinkReason) → IsLinkFault set c m q → IsLinkFault set d n r → (c ≡ d) × (m ≡ n) × (q ≡ r)
 one set c d m n q r f g = one_of_two set c d m n q r (fault set c m q f) (fault set d n r g)

@@ -16,3 +16,4 @@ mod Requirements
 pub mod Carets
 pub mod Compatible
 mod RangeLaws
+pub mod SightLaws

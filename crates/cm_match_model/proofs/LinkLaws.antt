@@ -1,5 +1,5 @@
 -- Imports are linked to exports of earlier components.
-use Rattle.std.proofs.Common.{◌≡◌, ℕ, zero, suc, ◌+◌, ◌<◌, ◌≤◌, List, [], ◌∷◌, ◌++◌, length, Some, refl, sym, ap, subst, ◌∙◌, arith, take, append_assoc, length-append, option_and_then, slice_get}
+use Rattle.std.proofs.Common.{◌≡◌, ℕ, zero, suc, ◌+◌, ◌<◌, ◌≤◌, List, [], ◌∷◌, ◌++◌, length, Some, refl, sym, ap, subst, ◌∙◌, arith, take, append_assoc, length-append, ◌&&◌, option_and_then, slice_get}
 use Rattle.std.specs.Prelude.{unwrap_or}
 use Rattle.std.specs.List.{AllByRecursion}
 use Rattle.std.specs.Option.{option_map}
@@ -9,23 +9,23 @@ use Rattle.cm_validate_model.specs.Definitions as definitions
 use Rattle.cm_validate_model.specs.Spaces.{Spaces}
 use Rattle.cm_match_model.specs.Origins.{LeadEarlier}
 use Rattle.cm_match_model.specs.declared.component.Link.{Link}
-use Rattle.cm_match_model.specs.Imports.{all_exports_from, export_in, exports_before, exports_from, import_at, import_in, link_of, links_of, only_link}
+use Rattle.cm_match_model.specs.Imports.{LinkSet, all_exports_from, export_in, exports_before, exports_from, import_at, import_in, link_of, links_of, only_link}
 use Rattle.cm_match_model.proofs.ListLemmas.{all_kept}
 use Rattle.cm_lemmas.proofs.Lists.{all_both}
 use Rattle.cm_lemmas.proofs.Options.{stepped}
 
-abbrev IsOf : ℕ → NamedExport → Type 0
+abbrev pub IsOf : ℕ → NamedExport → Type 0
 IsOf n e = e.component < n
 
 own_exports : (n c k : ℕ) (xs : List definitions.NamedExport) → c < n → AllByRecursion (IsOf n) (exports_from c k xs)
 own_exports n c k [] h = tt {0}
 own_exports n c k (x ∷ xs) h = (h, own_exports n c (k + 1) xs h)
 
-all_exports : (n c : ℕ) (ss : List Spaces) → c + length ss ≤ n → AllByRecursion (IsOf n) (all_exports_from c ss)
+pub all_exports : (n c : ℕ) (ss : List Spaces) → c + length ss ≤ n → AllByRecursion (IsOf n) (all_exports_from c ss)
 all_exports n c [] h = tt {0}
 all_exports n c (s ∷ ss) h = all_both (IsOf n) (exports_from c 0 s.exports) (all_exports_from (c + 1) ss) (own_exports n c 0 s.exports (omega (arith, h))) (all_exports n (c + 1) ss (omega (arith, h)))
 
-so_many : (n : ℕ) (ss : List Spaces) → length (take n ss) ≤ n
+pub so_many : (n : ℕ) (ss : List Spaces) → length (take n ss) ≤ n
 so_many zero ss = omega arith
 so_many (suc n) [] = omega arith
 so_many (suc n) (s ∷ ss) = omega (arith, so_many n ss)
@@ -35,13 +35,13 @@ only_of_these n [] l h k = cc k
 only_of_these n (e ∷ []) l h k = subst (λ m. m < n) (ap (λ o. (unwrap_or o l).component) k) h.0
 only_of_these n (e ∷ f ∷ es) l h k = cc k
 
-pub linked_earlier : (set : List Spaces) (c k : ℕ) (x : NamedExtern) (l : Link) → link_of set (import_at c k x) ≡ Some l → l.component < c
+pub linked_earlier : (set : LinkSet) (c k : ℕ) (x : NamedExtern) (l : Link) → link_of set (import_at c k x) ≡ Some l → l.component < c
 linked_earlier set c k x l h =
-    only_of_these c _ l (all_kept (IsOf c) (λ e. fits x.name e.name) (exports_before set c) (all_exports c 0 (take c set) (omega (arith, so_many c set)))) h
+    only_of_these c _ l (all_kept (IsOf c) (λ e. set.sees c k e && fits x.name e.name) (exports_before set.spaces c) (all_exports c 0 (take c set.spaces) (omega (arith, so_many c set.spaces)))) h
 
-pub lead_earlier : (set : List Spaces) → LeadEarlier (links_of set)
+pub lead_earlier : (set : LinkSet) → LeadEarlier (links_of set)
 lead_earlier set c k l h =
-    let x = stepped (import_in set c k) (λ x. link_of set (import_at c k x)) l h in
+    let x = stepped (import_in set.spaces c k) (λ x. link_of set (import_at c k x)) l h in
     linked_earlier set c k x.0 l x.2
 
 -- ---- what an import is linked to is there
@@ -78,7 +78,7 @@ only_there set [] l h k = cc k
 only_there set (e ∷ []) l h k = subst (λ (m : Link). (d : definitions.ExportDef) × (export_in set m.component m.export ≡ Some d)) (ap (λ o. unwrap_or o l) k) h.0
 only_there set (e ∷ f ∷ es) l h k = cc k
 
-pub name_exports : (set : List Spaces) (c n : ℕ) (l : Link) → links_of set c n ≡ Some l → (e : definitions.ExportDef) × (export_in set l.component l.export ≡ Some e)
+pub name_exports : (set : LinkSet) (c n : ℕ) (l : Link) → links_of set c n ≡ Some l → (e : definitions.ExportDef) × (export_in set.spaces l.component l.export ≡ Some e)
 name_exports set c n l h =
-    let x = stepped (import_in set c n) (λ x. link_of set (import_at c n x)) l h in
-    only_there set _ l (all_kept (IsThere set) (λ e. fits x.0.name e.name) (exports_before set c) (all_there set 0 [] set c refl refl)) x.2
+    let x = stepped (import_in set.spaces c n) (λ x. link_of set (import_at c n x)) l h in
+    only_there set.spaces _ l (all_kept (IsThere set.spaces) (λ e. set.sees c n e && fits x.0.name e.name) (exports_before set.spaces c) (all_there set.spaces 0 [] set.spaces c refl refl)) x.2

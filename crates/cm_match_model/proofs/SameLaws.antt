@@ -14,7 +14,7 @@ use Rattle.cm_validate_model.specs.Counted.{IsAmongFirst, IsCounted, AreCounted,
 use Rattle.cm_validate_model.specs.CountedSpaces.{AreMembersCounted, AreSpacesCounted, IsExportCounted, IsMemberCounted}
 use Rattle.cm_match_model.specs.declared.component.Link.{Link}
 use Rattle.cm_match_model.specs.Origins.{AreOrigins, definition_of, exported_resource, item_name, items_of, members_of, origin_by, origin_of, resource_at, resource_member, resource_of, served}
-use Rattle.cm_match_model.specs.Imports.{export_in, links_of}
+use Rattle.cm_match_model.specs.Imports.{LinkSet, export_in, links_of}
 use Rattle.cm_match_model.specs.Serving.{Serves, item_under, standing}
 use Rattle.cm_match_model.specs.Alike.{IsLinkedTo}
 use Rattle.cm_match_model.proofs.AlikeLists.{mapped}
@@ -72,7 +72,7 @@ resource_is (type_member (instance_type i)) q e = cc e
 resource_is (type_member faulty) q e = cc e
 
 -- what serves an item that brings a resource is one
-pub resource_under : (set : List Spaces) (c d : ℕ) (ms : List NamedMember) (name : List ℕ) (r : ResourceId) (have : ItemTy) → item_under ms name ≡ Some have
+pub resource_under : (set : LinkSet) (c d : ℕ) (ms : List NamedMember) (name : List ℕ) (r : ResourceId) (have : ItemTy) → item_under ms name ≡ Some have
     → Serves set c (fresh_resource r) d have → (n : ℕ) × (member_named ms name ≡ Some (type_member (resource n)))
 resource_under set c d ms name r (func_item f) e s = absurd s
 resource_under set c d ms name r (equal_type t) e s = absurd s
@@ -84,19 +84,19 @@ resource_under set c d ms name r (equal_resource q) e s =
 
 -- ---- where a provider's export is
 
-module _ (set : List Spaces) (counted : (n : ℕ) (p : Spaces) → slice_get set n ≡ Some p → AreSpacesCounted p)
-    (origins : AreOrigins set (links_of set) (origin_of set (links_of set))) (c : ℕ) (s : Spaces) (there : slice_get set c ≡ Some s) where
+module _ (set : LinkSet) (counted : (n : ℕ) (p : Spaces) → slice_get set.spaces n ≡ Some p → AreSpacesCounted p)
+    (origins : AreOrigins set.spaces (links_of set) (origin_of set.spaces (links_of set))) (c : ℕ) (s : Spaces) (there : slice_get set.spaces c ≡ Some s) where
   -- what is exported is there
-  exported_there : (l : Link) (ms : List NamedMember) → export_in set l.component l.export ≡ Some (exported_instance ms)
-      → (p : Spaces) × (slice_get set l.component ≡ Some p) × (e : NamedExport) × (slice_get p.exports l.export ≡ Some e) × (e.def ≡ exported_instance ms)
+  exported_there : (l : Link) (ms : List NamedMember) → export_in set.spaces l.component l.export ≡ Some (exported_instance ms)
+      → (p : Spaces) × (slice_get set.spaces l.component ≡ Some p) × (e : NamedExport) × (slice_get p.exports l.export ≡ Some e) × (e.def ≡ exported_instance ms)
   exported_there l ms h =
-      let p = stepped (slice_get set l.component) (λ v. option_map (λ e. e.def) (slice_get v.exports l.export)) (exported_instance ms) h in
+      let p = stepped (slice_get set.spaces l.component) (λ v. option_map (λ e. e.def) (slice_get v.exports l.export)) (exported_instance ms) h in
       let e = mapped (slice_get p.0.exports l.export) (λ e. e.def) (exported_instance ms) p.2 in
       (p.0, p.1, e.0, e.1, e.2)
 
   -- a resource that an export has under a name is one of its component
-  provided_there : (l : Link) (ms : List NamedMember) (name : List ℕ) (n : ℕ) → export_in set l.component l.export ≡ Some (exported_instance ms)
-      → member_named ms name ≡ Some (type_member (resource n)) → (def : ResourceDef) × (definition_of set (resource_of l.component n) ≡ Some def)
+  provided_there : (l : Link) (ms : List NamedMember) (name : List ℕ) (n : ℕ) → export_in set.spaces l.component l.export ≡ Some (exported_instance ms)
+      → member_named ms name ≡ Some (type_member (resource n)) → (def : ResourceDef) × (definition_of set.spaces (resource_of l.component n) ≡ Some def)
   provided_there l ms name n h m =
       let x = exported_there l ms h in
       let k : AreSpacesCounted x.0 = counted l.component x.0 x.1 in
@@ -107,15 +107,15 @@ module _ (set : List Spaces) (counted : (n : ℕ) (p : Spaces) → slice_get set
       (def.0, ap (option_and_then (λ (v : Spaces). slice_get v.resources n)) x.1 ∙ def.1)
 
   -- it is something in the end
-  pub provided_origin : (l : Link) (ms : List NamedMember) (name : List ℕ) (n : ℕ) → export_in set l.component l.export ≡ Some (exported_instance ms)
-      → member_named ms name ≡ Some (type_member (resource n)) → (o : ResourceId) × (origin_of set (links_of set) (resource_of l.component n) ≡ Some o)
+  pub provided_origin : (l : Link) (ms : List NamedMember) (name : List ℕ) (n : ℕ) → export_in set.spaces l.component l.export ≡ Some (exported_instance ms)
+      → member_named ms name ≡ Some (type_member (resource n)) → (o : ResourceId) × (origin_of set.spaces (links_of set) (resource_of l.component n) ≡ Some o)
   provided_origin l ms name n h m =
       let def = provided_there l ms name n h m in
       let q = resource_of l.component n in
-      (origin_by set (links_of set) (origin_of set (links_of set)) q def.0, origins q ∙ ap (option_map (origin_by set (links_of set) (origin_of set (links_of set)) q)) def.1)
+      (origin_by set.spaces (links_of set) (origin_of set.spaces (links_of set)) q def.0, origins q ∙ ap (option_map (origin_by set.spaces (links_of set) (origin_of set.spaces (links_of set)) q)) def.1)
 
-  provided_at : (l : Link) (ms : List NamedMember) (name : List ℕ) (n : ℕ) → export_in set l.component l.export ≡ Some (exported_instance ms)
-      → member_named ms name ≡ Some (type_member (resource n)) → resource_at set l name ≡ Some (resource_of l.component n)
+  provided_at : (l : Link) (ms : List NamedMember) (name : List ℕ) (n : ℕ) → export_in set.spaces l.component l.export ≡ Some (exported_instance ms)
+      → member_named ms name ≡ Some (type_member (resource n)) → resource_at set.spaces l name ≡ Some (resource_of l.component n)
   provided_at l ms name n h m =
       let x = exported_there l ms h in
       ap (option_and_then (λ (v : Spaces). option_map (resource_of l.component) (exported_resource v l.export name))) x.1
@@ -131,7 +131,7 @@ module _ (set : List Spaces) (counted : (n : ℕ) (p : Spaces) → slice_get set
     import_there j a w = sym (ap (option_and_then (λ (v : Spaces). slice_get v.imports j)) there) ∙ w.there
 
     name_there : (j a : ℕ) (w : IsLinkedTo set c j t a d (exported_instance ms)) (n : ℕ) (i : NamedItem) → slice_get t.items n ≡ Some i
-        → option_and_then (λ (v : Spaces). item_name v j n) (slice_get set c) ≡ Some i.name
+        → option_and_then (λ (v : Spaces). item_name v j n) (slice_get set.spaces c) ≡ Some i.name
     name_there j a w n i e =
         ap (option_and_then (λ (v : Spaces). item_name v j n)) there
         ∙ ap (option_and_then (λ (x : NamedExtern). option_map (λ (y : NamedItem). y.name) (slice_get (items_of x.desc) n))) (import_there j a w)
@@ -140,21 +140,21 @@ module _ (set : List Spaces) (counted : (n : ℕ) (p : Spaces) → slice_get set
 
     -- what serves an item's resource, and what that is in the end
     served_as : (j a : ℕ) (w : IsLinkedTo set c j t a d (exported_instance ms)) (n : ℕ) (i : NamedItem) (q : ℕ) → slice_get t.items n ≡ Some i
-        → member_named ms i.name ≡ Some (type_member (resource q)) → served set (links_of set) c j n ≡ Some (resource_of d q)
+        → member_named ms i.name ≡ Some (type_member (resource q)) → served set.spaces (links_of set) c j n ≡ Some (resource_of d q)
     served_as j a w n i q e m =
-        ap (option_and_then (λ name. option_and_then (λ l. resource_at set l name) (links_of set c j))) (name_there j a w n i e)
-        ∙ ap (option_and_then (λ l. resource_at set l i.name)) w.linked
+        ap (option_and_then (λ name. option_and_then (λ l. resource_at set.spaces l name) (links_of set c j))) (name_there j a w n i e)
+        ∙ ap (option_and_then (λ l. resource_at set.spaces l i.name)) w.linked
         ∙ provided_at w.link ms i.name q w.exported m
         ∙ ap (λ k. Some (resource_of k q)) w.to
 
     pub stands_as : (j a : ℕ) (w : IsLinkedTo set c j t a d (exported_instance ms)) (n : ℕ) (i : NamedItem) (r : ResourceId) (q : ℕ) (o : ResourceId) → slice_get t.items n ≡ Some i
         → slice_get s.resources r.number ≡ Some (brought j n) → member_named ms i.name ≡ Some (type_member (resource q))
-        → origin_of set (links_of set) (resource_of d q) ≡ Some o → standing set c r ≡ o
+        → origin_of set.spaces (links_of set) (resource_of d q) ≡ Some o → standing set c r ≡ o
     stands_as j a w n i r q o e b m is =
-        let table = origin_of set (links_of set) in
+        let table = origin_of set.spaces (links_of set) in
         let x = resource_of c r.number in
-        let defined : definition_of set x ≡ Some (brought j n) = ap (option_and_then (λ (v : Spaces). slice_get v.resources r.number)) there ∙ b in
+        let defined : definition_of set.spaces x ≡ Some (brought j n) = ap (option_and_then (λ (v : Spaces). slice_get v.resources r.number)) there ∙ b in
         ap (λ z. unwrap_or z r)
-        (origins x ∙ ap (option_map (origin_by set (links_of set) table x)) defined
+        (origins x ∙ ap (option_map (origin_by set.spaces (links_of set) table x)) defined
         ∙ ap (λ z. Some (unwrap_or (option_and_then table z) x)) (served_as j a w n i q e m)
         ∙ ap (λ z. Some (unwrap_or z x)) is)

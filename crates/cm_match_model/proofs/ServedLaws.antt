@@ -10,7 +10,7 @@ use Rattle.cm_validate_model.specs.Declarations.{type_in}
 use Rattle.cm_validate_model.specs.Spaces.{Spaces, func_of_member, item_of_member, member_named}
 use Rattle.cm_match_model.specs.Origins.{item_name}
 use Rattle.cm_match_model.specs.declared.component.Link.{Link}
-use Rattle.cm_match_model.specs.Imports.{ImportAt, all_imports_from, export_in, import_at, imports_from, link_of, links_of}
+use Rattle.cm_match_model.specs.Imports.{LinkSet, ImportAt, all_imports_from, export_in, import_at, imports_from, link_of, links_of}
 use Rattle.cm_match_model.specs.Links.{CanBeLinked, IsServed}
 use Rattle.cm_match_model.specs.Serving.{IsItemServed, IsSameFunc, Serves, ServesExtern, item_under}
 use Rattle.cm_validate_model.specs.Imported.{func_item_of, wanted_func, wanted_of}
@@ -45,7 +45,7 @@ of_set is_so d (t ∷ ts) h (suc c) s e n x f =
 -- ---- items
 
 -- what serves a function is a function of the same type
-served_func : (set : List Spaces) (c : ℕ) (f : FuncTy) (d : ℕ) (have : ItemTy) → Serves set c (func_item f) d have → (g : FuncTy) × (have ≡ func_item g) × IsSameFunc set c f d g
+served_func : (set : LinkSet) (c : ℕ) (f : FuncTy) (d : ℕ) (have : ItemTy) → Serves set c (func_item f) d have → (g : FuncTy) × (have ≡ func_item g) × IsSameFunc set c f d g
 served_func set c f d (func_item g) s = (g, refl, s)
 served_func set c f d (equal_type t) s = absurd s
 served_func set c f d (equal_resource r) s = absurd s
@@ -84,10 +84,10 @@ found_under ms name g e =
 -- ---- imports
 
 -- what an import, or an item of one, is served by
-Served : List Spaces → Spaces → ℕ → ℕ → Option ℕ → FuncTy → ℕ → ExportDef → Type 0
+Served : LinkSet → Spaces → ℕ → ℕ → Option ℕ → FuncTy → ℕ → ExportDef → Type 0
 Served set s c import item f d e = (h : FuncDef) × (func_for s import item e ≡ Some h) × IsSameFunc set c f d (func_type_of h)
 
-by_item : (set : List Spaces) (s : Spaces) (c import k : ℕ) (f : FuncTy) (d : ℕ) (ms : List NamedMember) (i : NamedItem)
+by_item : (set : LinkSet) (s : Spaces) (c import k : ℕ) (f : FuncTy) (d : ℕ) (ms : List NamedMember) (i : NamedItem)
     → item_name s import k ≡ Some i.name → func_item_of i.desc ≡ Some f → IsItemServed set c d ms i → Served set s c import (Some k) f d (exported_instance ms)
 unfolding Served
 by_item set s c import k f d ms i name is served =
@@ -96,7 +96,7 @@ by_item set s c import k f d ms i name is served =
     let h = found_under ms i.name g.0 (served.1 ∙ ap Some g.1) in
     (h.0, ap (option_and_then (λ n. exported_under n (exported_instance ms))) name ∙ h.1, subst (IsSameFunc set c f d) (sym h.2) g.2)
 
-by_extern : (set : List Spaces) (s : Spaces) (c import : ℕ) (item : Option ℕ) (f : FuncTy) (d : ℕ) (x : NamedExtern) (t : ExternTy) (e : ExportDef)
+by_extern : (set : LinkSet) (s : Spaces) (c import : ℕ) (item : Option ℕ) (f : FuncTy) (d : ℕ) (x : NamedExtern) (t : ExternTy) (e : ExportDef)
     → slice_get s.imports import ≡ Some x → x.desc ≡ t → wanted_of item t ≡ Some f → ServesExtern set c t d e → Served set s c import item f d e
 unfolding Served
 by_extern set s c import None f d x (extern.func g) (exported_func h) there is wanted serves = (h, refl, subst (λ v. IsSameFunc set c v d (func_type_of h)) (some_is g f wanted) serves)
@@ -112,23 +112,23 @@ by_extern set s c import (Some k) f d x (extern.instance items) (exported_instan
     named i e = rw there (rw is (rw e refl))
 
 -- the link of an import, and the function that serves it
-link_there : (set : List Spaces) (c import : ℕ) (s : Spaces) (x : NamedExtern) (l : Link) → slice_get set c ≡ Some s → slice_get s.imports import ≡ Some x
+link_there : (set : LinkSet) (c import : ℕ) (s : Spaces) (x : NamedExtern) (l : Link) → slice_get set.spaces c ≡ Some s → slice_get s.imports import ≡ Some x
     → link_of set (import_at c import x) ≡ Some l → links_of set c import ≡ Some l
 link_there set c import s x l there is linked =
     ap (option_and_then (λ x. link_of set (import_at c import x))) (ap (option_and_then (λ s. slice_get s.imports import)) there ∙ is) ∙ linked
 
-func_there : (set : List Spaces) (c import : ℕ) (item : Option ℕ) (s : Spaces) (l : Link) (e : ExportDef) (h : FuncDef) → slice_get set c ≡ Some s → links_of set c import ≡ Some l
-    → export_in set l.component l.export ≡ Some e → func_for s import item e ≡ Some h
-    → serving_func set (links_of set) c import item ≡ Some (record { component = l.component; func = h })
+func_there : (set : LinkSet) (c import : ℕ) (item : Option ℕ) (s : Spaces) (l : Link) (e : ExportDef) (h : FuncDef) → slice_get set.spaces c ≡ Some s → links_of set c import ≡ Some l
+    → export_in set.spaces l.component l.export ≡ Some e → func_for s import item e ≡ Some h
+    → serving_func set.spaces (links_of set) c import item ≡ Some (record { component = l.component; func = h })
 func_there set c import item s l e h there linked exported found =
-    ap (option_and_then (λ s. option_and_then (linked_func set s import item) (links_of set c import))) there
-    ∙ ap (option_and_then (linked_func set s import item)) linked
+    ap (option_and_then (λ s. option_and_then (linked_func set.spaces s import item) (links_of set c import))) there
+    ∙ ap (option_and_then (linked_func set.spaces s import item)) linked
     ∙ ap (λ o. option_map (λ f. record { component = l.component; func = f }) (option_and_then (func_for s import item) o)) exported
     ∙ ap (option_map (λ f. record { component = l.component; func = f })) found
 
-served_by : (set : List Spaces) (c import : ℕ) (s : Spaces) (item : Option ℕ) (f : FuncTy) (x : NamedExtern) → slice_get set c ≡ Some s → slice_get s.imports import ≡ Some x
+served_by : (set : LinkSet) (c import : ℕ) (s : Spaces) (item : Option ℕ) (f : FuncTy) (x : NamedExtern) → slice_get set.spaces c ≡ Some s → slice_get s.imports import ≡ Some x
     → wanted_of item x.desc ≡ Some f → IsServed set (import_at c import x)
-    → (g : FuncAt) × (serving_func set (links_of set) c import item ≡ Some g) × (g.component < c) × IsSameFunc set c f g.component (func_type_of g.func)
+    → (g : FuncAt) × (serving_func set.spaces (links_of set) c import item ≡ Some g) × (g.component < c) × IsSameFunc set c f g.component (func_type_of g.func)
 unfolding Served
 served_by set c import s item f x there is wanted i =
     let h = by_extern set s c import item f i.link.component x x.desc i.export is refl wanted i.serves in
@@ -139,10 +139,10 @@ served_by set c import s item f x there is wanted i =
       h.2,
     )
 
-pub served : (set : List Spaces) → CanBeLinked set → (c : ℕ) (s : Spaces) → slice_get set c ≡ Some s → (import : ℕ) (item : Option ℕ) (f : FuncTy)
+pub served : (set : LinkSet) → CanBeLinked set → (c : ℕ) (s : Spaces) → slice_get set.spaces c ≡ Some s → (import : ℕ) (item : Option ℕ) (f : FuncTy)
     → wanted_func s import item ≡ Some f
-    → (g : FuncAt) × (serving_func set (links_of set) c import item ≡ Some g) × (g.component < c) × IsSameFunc set c f g.component (func_type_of g.func)
+    → (g : FuncAt) × (serving_func set.spaces (links_of set) c import item ≡ Some g) × (g.component < c) × IsSameFunc set c f g.component (func_type_of g.func)
 served set linked c s there import item f wanted =
     let x = stepped (slice_get s.imports import) (λ i. wanted_of item i.desc) f wanted in
-    let i : IsServed set (import_at c import x.0) = subst (λ k. IsServed set (import_at k import x.0)) (omega arith) (of_set (IsServed set) 0 set linked.served c s there import x.0 x.1) in
+    let i : IsServed set (import_at c import x.0) = subst (λ k. IsServed set (import_at k import x.0)) (omega arith) (of_set (IsServed set) 0 set.spaces linked.served c s there import x.0 x.1) in
     served_by set c import s item f x.0 there x.1 x.2 i

@@ -9,17 +9,18 @@ use Rattle.cm_match_model.specs.declared.fault.LinkReason.{LinkReason}
 use Rattle.cm_match_model.specs.declared.fault.LinkReason.TheVariants as reason
 use Rattle.cm_match_model.specs.Serving.{IsExternUnserved, IsFirst, IsItemServed, IsItemUnserved, IsUnserved, Serves, ServesExtern, are_known_resources, item_under}
 use Rattle.cm_match_model.specs.Alike.{AreAllAlike, AreAlike, FailsAt}
+use Rattle.cm_match_model.specs.Imports.{LinkSet}
 
 -- ---- one item
 
-alike_back : (set : List Spaces) (c : ℕ) (v w : ItemTy) → AreAlike set c v w → AreAlike set c w v
+alike_back : (set : LinkSet) (c : ℕ) (v w : ItemTy) → AreAlike set c v w → AreAlike set c w v
 alike_back set c (func_item f) (func_item g) e = sym e
 alike_back set c (equal_type t) (equal_type u) e = sym e
 alike_back set c (equal_resource r) (equal_resource q) e = sym e
 alike_back set c (fresh_resource r) (fresh_resource q) e = tt {0}
 alike_back set c _ _ e = absurd e
 
-serves_too : (set : List Spaces) (c d : ℕ) (v w have : ItemTy) → AreAlike set c v w → Serves set c v d have → Serves set c w d have
+serves_too : (set : LinkSet) (c d : ℕ) (v w have : ItemTy) → AreAlike set c v w → Serves set c v d have → Serves set c w d have
 serves_too set c d (func_item f) (func_item g) (func_item h) e s = sym e ∙ s
 serves_too set c d (equal_type t) (equal_type u) (equal_type h) e s = sym e ∙ s
 serves_too set c d (equal_resource r) (equal_resource q) (equal_resource h) e s = sym e ∙ s
@@ -30,7 +31,7 @@ serves_too set c d (equal_resource r) (equal_resource q) _ e s = absurd s
 serves_too set c d (fresh_resource r) (fresh_resource q) _ e s = absurd s
 serves_too set c d _ _ have e s = absurd e
 
-known_too : (set : List Spaces) (c : ℕ) (v w have : ItemTy) → AreAlike set c v w → are_known_resources v have ≡ are_known_resources w have
+known_too : (set : LinkSet) (c : ℕ) (v w have : ItemTy) → AreAlike set c v w → are_known_resources v have ≡ are_known_resources w have
 known_too set c (func_item f) (func_item g) have e = refl
 known_too set c (equal_type t) (equal_type u) have e = refl
 known_too set c (equal_resource r) (equal_resource q) (equal_resource h) e = refl
@@ -38,7 +39,7 @@ known_too set c (equal_resource r) (equal_resource q) _ e = refl
 known_too set c (fresh_resource r) (fresh_resource q) have e = refl
 known_too set c _ _ have e = absurd e
 
-unserved_too : (set : List Spaces) (c d : ℕ) (v w : ItemTy) (o : Option ItemTy) (r : LinkReason) → AreAlike set c v w → IsUnserved set c v d o r → IsUnserved set c w d o r
+unserved_too : (set : LinkSet) (c d : ℕ) (v w : ItemTy) (o : Option ItemTy) (r : LinkReason) → AreAlike set c v w → IsUnserved set c v d o r → IsUnserved set c w d o r
 unserved_too set c d v w None reason.MissingExport e h = tt {0}
 unserved_too set c d v w (Some have) reason.DifferentType e h = (λ s. h.0 (serves_too set c d w v have (alike_back set c v w e) s), sym (known_too set c v w have e) ∙ h.1)
 unserved_too set c d v w (Some have) reason.DifferentResource e h = (λ s. h.0 (serves_too set c d w v have (alike_back set c v w e) s), sym (known_too set c v w have e) ∙ h.1)
@@ -46,7 +47,7 @@ unserved_too set c d v w _ _ e h = absurd h
 
 -- ---- all items
 
-module _ (set : List Spaces) (c d : ℕ) (members : List NamedMember) where
+module _ (set : LinkSet) (c d : ℕ) (members : List NamedMember) where
   abbrev Served : NamedItem → Type 0
   Served = IsItemServed set c d members
 
@@ -111,14 +112,14 @@ module _ (set : List Spaces) (c d : ℕ) (members : List NamedMember) where
 -- ---- imports
 
 -- items that are alike for whatever instance the definition is
-abbrev pub AlikeFor : List Spaces → ℕ → ℕ → ExportDef → List NamedItem → List NamedItem → Type 0
+abbrev pub AlikeFor : LinkSet → ℕ → ℕ → ExportDef → List NamedItem → List NamedItem → Type 0
 AlikeFor set c d e is js = (members : List NamedMember) → e ≡ exported_instance members → AreAllAlike set c d members is js
 
-pub extern_served : (set : List Spaces) (c d : ℕ) (e : ExportDef) (is js : List NamedItem) → AlikeFor set c d e is js → ServesExtern set c (extern.instance is) d e → ServesExtern set c (extern.instance js) d e
+pub extern_served : (set : LinkSet) (c d : ℕ) (e : ExportDef) (is js : List NamedItem) → AlikeFor set c d e is js → ServesExtern set c (extern.instance is) d e → ServesExtern set c (extern.instance js) d e
 extern_served set c d (exported_func f) is js h s = absurd s
 extern_served set c d (exported_instance members) is js h s = all_served set c d members is js (h members refl) s
 
-pub extern_unserved : (set : List Spaces) (c d : ℕ) (e : ExportDef) (is js : List NamedItem) (r : LinkReason) → AlikeFor set c d e is js
+pub extern_unserved : (set : LinkSet) (c d : ℕ) (e : ExportDef) (is js : List NamedItem) (r : LinkReason) → AlikeFor set c d e is js
     → IsExternUnserved set c (extern.instance is) d e r → IsExternUnserved set c (extern.instance js) d e r
 extern_unserved set c d (exported_func f) is js r h s = s
 extern_unserved set c d (exported_instance members) is js r h s = all_fail set c d members is js r (h members refl) s

@@ -14,7 +14,7 @@ use Rattle.cm_match_model.specs.declared.fault.LinkReason.{LinkReason}
 use Rattle.cm_match_model.specs.declared.fault.LinkReason.TheVariants as reason
 use Rattle.cm_match_model.specs.declared.component.Link.{Link}
 use Rattle.cm_match_model.specs.Origins.{AreOrigins, LeadEarlier, Links, origin_of}
-use Rattle.cm_match_model.specs.Imports.{candidates, export_in, import_at, import_in, link_of, links_of, only_link}
+use Rattle.cm_match_model.specs.Imports.{LinkSet, Sees, seen_by, candidates, export_in, import_at, import_in, link_of, links_of, only_link}
 use Rattle.cm_match_model.specs.Links.{IsNotServed, IsNotServedBy, IsServed}
 use Rattle.cm_match_model.specs.Serving.{IsExternUnserved, IsItemServed, ServesExtern, standing}
 use Rattle.cm_match_model.specs.Alike.{AreAllAlike, FailsAt, IsLinkedTo}
@@ -33,38 +33,38 @@ map_back f (x ∷ xs) (suc k) y h = map_back f xs k y h
 module _ (counted : (sections : List SectionTree) → AreSpacesCounted (spaces_of sections))
     (brings : (sections : List SectionTree) (import : ℕ) (x : NamedExtern) (items : List NamedItem) → slice_get (spaces_of sections).imports import ≡ Some x
     → x.desc ≡ extern.instance items → BringsInOrder (spaces_of sections).resources import items)
-    (early : (set : List Spaces) → LeadEarlier (links_of set))
+    (early : (set : LinkSet) → LeadEarlier (links_of set))
     (one : (set : List Spaces) (links : Links) → LeadEarlier links → AreOrigins set links (origin_of set links))
-    (components : List (List SectionTree)) where
-  abbrev set : List Spaces
-  set = map spaces_of components
+    (components : List (List SectionTree)) (sees : Sees) where
+  abbrev set : LinkSet
+  set = seen_by sees (map spaces_of components)
 
-  set_counted : (n : ℕ) (p : Spaces) → slice_get set n ≡ Some p → AreSpacesCounted p
+  set_counted : (n : ℕ) (p : Spaces) → slice_get set.spaces n ≡ Some p → AreSpacesCounted p
   set_counted n p e =
       let x = map_back spaces_of components n p e in
       subst AreSpacesCounted x.1 (counted x.0)
 
-  set_brings : (n : ℕ) (p : Spaces) → slice_get set n ≡ Some p → (import : ℕ) (x : NamedExtern) (items : List NamedItem) → slice_get p.imports import ≡ Some x → x.desc ≡ extern.instance items
+  set_brings : (n : ℕ) (p : Spaces) → slice_get set.spaces n ≡ Some p → (import : ℕ) (x : NamedExtern) (items : List NamedItem) → slice_get p.imports import ≡ Some x → x.desc ≡ extern.instance items
       → BringsInOrder p.resources import items
   set_brings n p e =
       let y = map_back spaces_of components n p e in
       subst (λ (q : Spaces). (import : ℕ) (x : NamedExtern) (items : List NamedItem) → slice_get q.imports import ≡ Some x → x.desc ≡ extern.instance items → BringsInOrder q.resources import items)
       y.1 (brings y.0)
 
-  set_origins : AreOrigins set (links_of set) (origin_of set (links_of set))
-  set_origins = one set (links_of set) (early set)
+  set_origins : AreOrigins set.spaces (links_of set) (origin_of set.spaces (links_of set))
+  set_origins = one set.spaces (links_of set) (early set)
 
   pub resources_same : (c j k d : ℕ) (t : InstanceTy) (a b : ℕ) (ms : List NamedMember) → IsLinkedTo set c j t a d (exported_instance ms) → IsLinkedTo set c k t b d (exported_instance ms)
       → (number : ℕ) (i : NamedItem) (r : ResourceId) → slice_get t.items number ≡ Some i → i.desc ≡ fresh_resource r → IsItemServed set c d ms (replaced_item (moved t.first t.fresh a) i)
       → standing set c (moved t.first t.fresh a r) ≡ standing set c (moved t.first t.fresh b r)
   resources_same c j k d t a b ms v w =
-      let s = stepped (slice_get set c) (λ (q : Spaces). slice_get q.imports j) v.import v.there in
+      let s = stepped (slice_get set.spaces c) (λ (q : Spaces). slice_get q.imports j) v.import v.there in
       same_served set set_counted set_origins c s.0 s.1 (set_brings c s.0 s.1) j k d t a b ms v w
 
   pub items_alike : (c j k d : ℕ) (t : InstanceTy) (a b : ℕ) (ms : List NamedMember) → OwnsWhatItBrings t → IsLinkedTo set c j t a d (exported_instance ms)
       → IsLinkedTo set c k t b d (exported_instance ms) → AreAllAlike set c d ms (items_from t a) (items_from t b)
   items_alike c j k d t a b ms owns v w =
-      let s = stepped (slice_get set c) (λ (q : Spaces). slice_get q.imports j) v.import v.there in
+      let s = stepped (slice_get set.spaces c) (λ (q : Spaces). slice_get q.imports j) v.import v.there in
       all_alike set set_counted set_origins c s.0 s.1 (set_brings c s.0 s.1) j k d t a b ms v w owns
 
   pub items_fail : (c j k d : ℕ) (t : InstanceTy) (a b : ℕ) (ms : List NamedMember) (number : ℕ) (r : LinkReason) → OwnsWhatItBrings t → IsLinkedTo set c j t a d (exported_instance ms)
@@ -74,50 +74,50 @@ module _ (counted : (sections : List SectionTree) → AreSpacesCounted (spaces_o
 -- ---- what serves imports
 
 abbrev pub AlikeLaw : Type 0
-AlikeLaw = (components : List (List SectionTree)) (c j k d : ℕ) (t : InstanceTy) (a b : ℕ) (ms : List NamedMember) → OwnsWhatItBrings t
-    → IsLinkedTo (map spaces_of components) c j t a d (exported_instance ms) → IsLinkedTo (map spaces_of components) c k t b d (exported_instance ms)
-    → AreAllAlike (map spaces_of components) c d ms (items_from t a) (items_from t b)
+AlikeLaw = (components : List (List SectionTree)) (sees : Sees) (c j k d : ℕ) (t : InstanceTy) (a b : ℕ) (ms : List NamedMember) → OwnsWhatItBrings t
+    → IsLinkedTo (seen_by sees (map spaces_of components)) c j t a d (exported_instance ms) → IsLinkedTo (seen_by sees (map spaces_of components)) c k t b d (exported_instance ms)
+    → AreAllAlike (seen_by sees (map spaces_of components)) c d ms (items_from t a) (items_from t b)
 
-alike_for : AlikeLaw → (components : List (List SectionTree)) (c j k d : ℕ) (t : InstanceTy) (a b : ℕ) (e : ExportDef) → OwnsWhatItBrings t
-    → IsLinkedTo (map spaces_of components) c j t a d e → IsLinkedTo (map spaces_of components) c k t b d e → AlikeFor (map spaces_of components) c d e (items_from t a) (items_from t b)
-alike_for law components c j k d t a b e owns v w ms is =
-    law components c j k d t a b ms owns (subst (IsLinkedTo (map spaces_of components) c j t a d) is v) (subst (IsLinkedTo (map spaces_of components) c k t b d) is w)
+alike_for : AlikeLaw → (components : List (List SectionTree)) (sees : Sees) (c j k d : ℕ) (t : InstanceTy) (a b : ℕ) (e : ExportDef) → OwnsWhatItBrings t
+    → IsLinkedTo (seen_by sees (map spaces_of components)) c j t a d e → IsLinkedTo (seen_by sees (map spaces_of components)) c k t b d e → AlikeFor (seen_by sees (map spaces_of components)) c d e (items_from t a) (items_from t b)
+alike_for law components sees c j k d t a b e owns v w ms is =
+    law components sees c j k d t a b ms owns (subst (IsLinkedTo (seen_by sees (map spaces_of components)) c j t a d) is v) (subst (IsLinkedTo (seen_by sees (map spaces_of components)) c k t b d) is w)
 
-pub serves_both : AlikeLaw → (components : List (List SectionTree)) (c j k d : ℕ) (t : InstanceTy) (a b : ℕ) (e : ExportDef) → OwnsWhatItBrings t
-    → IsLinkedTo (map spaces_of components) c j t a d e → IsLinkedTo (map spaces_of components) c k t b d e
-    → ServesExtern (map spaces_of components) c (extern.instance (items_from t a)) d e → ServesExtern (map spaces_of components) c (extern.instance (items_from t b)) d e
-serves_both law components c j k d t a b e owns v w =
-    extern_served (map spaces_of components) c d e (items_from t a) (items_from t b) (alike_for law components c j k d t a b e owns v w)
+pub serves_both : AlikeLaw → (components : List (List SectionTree)) (sees : Sees) (c j k d : ℕ) (t : InstanceTy) (a b : ℕ) (e : ExportDef) → OwnsWhatItBrings t
+    → IsLinkedTo (seen_by sees (map spaces_of components)) c j t a d e → IsLinkedTo (seen_by sees (map spaces_of components)) c k t b d e
+    → ServesExtern (seen_by sees (map spaces_of components)) c (extern.instance (items_from t a)) d e → ServesExtern (seen_by sees (map spaces_of components)) c (extern.instance (items_from t b)) d e
+serves_both law components sees c j k d t a b e owns v w =
+    extern_served (seen_by sees (map spaces_of components)) c d e (items_from t a) (items_from t b) (alike_for law components sees c j k d t a b e owns v w)
 
-pub fails_both : AlikeLaw → (components : List (List SectionTree)) (c j k d : ℕ) (t : InstanceTy) (a b : ℕ) (e : ExportDef) (r : LinkReason) → OwnsWhatItBrings t
-    → IsLinkedTo (map spaces_of components) c j t a d e → IsLinkedTo (map spaces_of components) c k t b d e
-    → IsExternUnserved (map spaces_of components) c (extern.instance (items_from t a)) d e r → IsExternUnserved (map spaces_of components) c (extern.instance (items_from t b)) d e r
-fails_both law components c j k d t a b e r owns v w =
-    extern_unserved (map spaces_of components) c d e (items_from t a) (items_from t b) r (alike_for law components c j k d t a b e owns v w)
+pub fails_both : AlikeLaw → (components : List (List SectionTree)) (sees : Sees) (c j k d : ℕ) (t : InstanceTy) (a b : ℕ) (e : ExportDef) (r : LinkReason) → OwnsWhatItBrings t
+    → IsLinkedTo (seen_by sees (map spaces_of components)) c j t a d e → IsLinkedTo (seen_by sees (map spaces_of components)) c k t b d e
+    → IsExternUnserved (seen_by sees (map spaces_of components)) c (extern.instance (items_from t a)) d e r → IsExternUnserved (seen_by sees (map spaces_of components)) c (extern.instance (items_from t b)) d e r
+fails_both law components sees c j k d t a b e r owns v w =
+    extern_unserved (seen_by sees (map spaces_of components)) c d e (items_from t a) (items_from t b) r (alike_for law components sees c j k d t a b e owns v w)
 
 -- ---- imports
 
-module _ (set : List Spaces) (c : ℕ) (t : InstanceTy) (d : ℕ) (e : ExportDef) where
-  import_is : (n next : ℕ) (w : IsLinkedTo set c n t next d e) (x : NamedExtern) → import_in set c n ≡ Some x → x ≡ w.import
+module _ (set : LinkSet) (c : ℕ) (t : InstanceTy) (d : ℕ) (e : ExportDef) where
+  import_is : (n next : ℕ) (w : IsLinkedTo set c n t next d e) (x : NamedExtern) → import_in set.spaces c n ≡ Some x → x ≡ w.import
   import_is n next w x h = some_is x w.import (sym h ∙ w.there)
 
-  desc_is : (n next : ℕ) (w : IsLinkedTo set c n t next d e) (x : NamedExtern) → import_in set c n ≡ Some x → x.desc ≡ extern.instance (items_from t next)
+  desc_is : (n next : ℕ) (w : IsLinkedTo set c n t next d e) (x : NamedExtern) → import_in set.spaces c n ≡ Some x → x.desc ≡ extern.instance (items_from t next)
   desc_is n next w x h = ap (λ (y : NamedExtern). y.desc) (import_is n next w x h) ∙ w.items
 
-  link_is : (n next : ℕ) (w : IsLinkedTo set c n t next d e) (x : NamedExtern) → import_in set c n ≡ Some x → link_of set (import_at c n x) ≡ Some w.link
+  link_is : (n next : ℕ) (w : IsLinkedTo set c n t next d e) (x : NamedExtern) → import_in set.spaces c n ≡ Some x → link_of set (import_at c n x) ≡ Some w.link
   link_is n next w x h = sym (ap (option_and_then (λ y. link_of set (import_at c n y))) h) ∙ w.linked
 
   -- what is said of the link and the export of an import is said of the provider and the definition
-  export_is : (n next : ℕ) (w : IsLinkedTo set c n t next d e) (x : NamedExtern) → import_in set c n ≡ Some x → (l : Link) (f : ExportDef) → link_of set (import_at c n x) ≡ Some l
-      → export_in set l.component l.export ≡ Some f → (l.component ≡ d) × (f ≡ e)
+  export_is : (n next : ℕ) (w : IsLinkedTo set c n t next d e) (x : NamedExtern) → import_in set.spaces c n ≡ Some x → (l : Link) (f : ExportDef) → link_of set (import_at c n x) ≡ Some l
+      → export_in set.spaces l.component l.export ≡ Some f → (l.component ≡ d) × (f ≡ e)
   export_is n next w x h l f linked exported =
       let same : l ≡ w.link = some_is l w.link (sym linked ∙ link_is n next w x h) in (
         ap (λ (y : Link). y.component) same ∙ w.to,
-        some_is f e (sym exported ∙ ap (λ (y : Link). export_in set y.component y.export) same ∙ w.exported),
+        some_is f e (sym exported ∙ ap (λ (y : Link). export_in set.spaces y.component y.export) same ∙ w.exported),
       )
 
   -- a fact of the one import, by the link and the export, is one of the other
-  module _ (j k a b : ℕ) (v : IsLinkedTo set c j t a d e) (w : IsLinkedTo set c k t b d e) (x y : NamedExtern) (at_j : import_in set c j ≡ Some x) (at_k : import_in set c k ≡ Some y) where
+  module _ (j k a b : ℕ) (v : IsLinkedTo set c j t a d e) (w : IsLinkedTo set c k t b d e) (x y : NamedExtern) (at_j : import_in set.spaces c j ≡ Some x) (at_k : import_in set.spaces c k ≡ Some y) where
     pub served_alike : (ServesExtern set c (extern.instance (items_from t a)) d e → ServesExtern set c (extern.instance (items_from t b)) d e)
         → IsServed set (import_at c j x) → IsServed set (import_at c k y)
     served_alike both s =
@@ -150,8 +150,8 @@ module _ (set : List Spaces) (c : ℕ) (t : InstanceTy) (d : ℕ) (e : ExportDef
 
     pub not_served_alike : (r : LinkReason) → (IsExternUnserved set c (extern.instance (items_from t a)) d e r → IsExternUnserved set c (extern.instance (items_from t b)) d e r)
         → IsNotServed set (import_at c j x) r → IsNotServed set (import_at c k y) r
-    not_served_alike reason.NoProvider both s = absurd (none_linked (candidates set c x) v.link (link_is j a v x at_j) s)
-    not_served_alike reason.TwoProviders both s = absurd (many_linked (candidates set c x) v.link (link_is j a v x at_j) s)
+    not_served_alike reason.NoProvider both s = absurd (none_linked (candidates set c j x) v.link (link_is j a v x at_j) s)
+    not_served_alike reason.TwoProviders both s = absurd (many_linked (candidates set c j x) v.link (link_is j a v x at_j) s)
     not_served_alike reason.Empty both s = fails_alike reason.Empty both s
     not_served_alike reason.TooMany both s = fails_alike reason.TooMany both s
     not_served_alike reason.MissingExport both s = fails_alike reason.MissingExport both s

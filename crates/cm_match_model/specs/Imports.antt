@@ -1,10 +1,10 @@
 -- The imports of a set of components, and the exports that they may be linked to (how components
 -- are linked is this project's own choice).
-use Rattle.std.specs.Prelude.{ℕ, ◌+◌, List, [], ◌∷◌, ◌++◌, Option, Some, None, slice_get, take}
+use Rattle.std.specs.Prelude.{ℕ, ◌+◌, Bool, true, ◌&&◌, filter, List, [], ◌∷◌, ◌++◌, Option, Some}
+use Rattle.std.specs.Prelude.{None, slice_get, take}
 use Rattle.std.specs.Option.{option_map, option_and_then}
 use Rattle.cm_types.specs.Signatures.{NamedExtern}
-use Rattle.cm_match_model.specs.Fitting.{NamedExport, named_export}
-use Rattle.cm_match_model.specs.Fitting as fitting
+use Rattle.cm_match_model.specs.Fitting.{NamedExport, fits, named_export}
 use Rattle.cm_validate_model.specs.Definitions.{ExportDef}
 use Rattle.cm_validate_model.specs.Definitions as definitions
 use Rattle.cm_validate_model.specs.Spaces.{Spaces}
@@ -61,9 +61,26 @@ all_exports_from component (s ∷ ss) =
 abbrev pub exports_before : List Spaces → ℕ → List NamedExport
 exports_before set component = all_exports_from 0 (take component set)
 
--- those exports that may serve an import, by its name
-abbrev pub candidates : List Spaces → ℕ → NamedExtern → List NamedExport
-candidates set component item = fitting.candidates (exports_before set component) item.name
+-- which exports an import may see: by its component, its number there, and the export
+abbrev pub Sees : Type 0
+Sees = ℕ → ℕ → NamedExport → Bool
+
+abbrev pub sees_all : Sees
+sees_all component number e = true
+
+-- components, and what their imports see
+pub record LinkSet : Type 0 where
+  pub spaces : List Spaces
+  pub sees : Sees
+
+abbrev pub seen_by : Sees → List Spaces → LinkSet
+seen_by sees spaces = record { spaces = spaces; sees = sees }
+
+-- those exports that may serve an import: that it sees, and that fit it by name
+abbrev pub candidates : LinkSet → ℕ → ℕ → NamedExtern → List NamedExport
+candidates set component number item =
+    filter (λ e. set.sees component number e && fits item.name e.name)
+    (exports_before set.spaces component)
 
 -- an import is linked to its candidate, where there is just one
 abbrev pub only_link : List NamedExport → Option Link
@@ -71,10 +88,10 @@ only_link [] = None
 only_link (e ∷ []) = Some (record { component = e.component; export = e.number })
 only_link (e ∷ f ∷ es) = None
 
-abbrev pub link_of : List Spaces → ImportAt → Option Link
-link_of set i = only_link (candidates set i.component i.item)
+abbrev pub link_of : LinkSet → ImportAt → Option Link
+link_of set i = only_link (candidates set i.component i.number i.item)
 
-abbrev pub links_of : List Spaces → Links
+abbrev pub links_of : LinkSet → Links
 links_of set component number =
     option_and_then (λ x. link_of set (import_at component number x))
-    (import_in set component number)
+    (import_in set.spaces component number)

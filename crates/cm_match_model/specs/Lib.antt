@@ -8,3 +8,4 @@ pub mod Brought
 pub mod Alike
 pub mod Fitting
 pub mod Ranges
+pub mod Sights

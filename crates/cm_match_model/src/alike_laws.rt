@@ -12,7 +12,7 @@ ghost use Rattle.cm_validate_model.specs.Definitions.{exported_instance};
 ghost use Rattle.cm_validate_model.specs.Items.{Item};
 ghost use Rattle.cm_validate_model.specs.Spaces.{after_items, empty_spaces, spaces_of};
 ghost use Rattle.cm_match_model.specs.declared.fault.LinkReason.{LinkReason};
-ghost use Rattle.cm_match_model.specs.Imports.{import_at, import_in};
+ghost use Rattle.cm_match_model.specs.Imports.{Sees, import_at, import_in, seen_by};
 ghost use Rattle.cm_match_model.specs.Links.{IsNotServed, IsServed};
 ghost use Rattle.cm_match_model.specs.Serving.{IsExternUnserved, IsItemServed, ServesExtern};
 ghost use Rattle.cm_match_model.specs.Serving.{standing};
@@ -44,16 +44,16 @@ pub fn imports_bring_in_order()
 /// a resource of the type's own is, in the end, the same for both, where the item that brings it is
 /// served.
 pub fn served_resources_are_the_same()
-    ensures { (components : List (List SectionTree)) (c j k d : ℕ) (t : InstanceTy) (a b : ℕ)
-        (members : List NamedMember)
-        → IsLinkedTo (map spaces_of components) c j t a d (exported_instance members)
-        → IsLinkedTo (map spaces_of components) c k t b d (exported_instance members)
+    ensures { (components : List (List SectionTree)) (sees : Sees) (c j k d : ℕ) (t : InstanceTy)
+        (a b : ℕ) (members : List NamedMember)
+        → IsLinkedTo (seen_by sees (map spaces_of components)) c j t a d (exported_instance members)
+        → IsLinkedTo (seen_by sees (map spaces_of components)) c k t b d (exported_instance members)
         → (number : ℕ) (i : NamedItem) (r : ResourceId) → slice_get t.items number ≡ Some i
         → i.desc ≡ fresh_resource r
-        → IsItemServed (map spaces_of components) c d members
+        → IsItemServed (seen_by sees (map spaces_of components)) c d members
         (replaced_item (moved t.first t.fresh a) i)
-        → standing (map spaces_of components) c (moved t.first t.fresh a r)
-        ≡ standing (map spaces_of components) c (moved t.first t.fresh b r) }
+        → standing (seen_by sees (map spaces_of components)) c (moved t.first t.fresh a r)
+        ≡ standing (seen_by sees (map spaces_of components)) c (moved t.first t.fresh b r) }
 {
     resources_are_counted();
     links_lead_earlier();
@@ -64,17 +64,19 @@ pub fn served_resources_are_the_same()
 /// The items of two such imports are alike, one by one, as far as they are served. So the first
 /// that is not served is the item of the same number, and for the same reason.
 pub fn items_are_alike()
-    ensures alike { (components : List (List SectionTree)) (c j k d : ℕ) (t : InstanceTy) (a b : ℕ)
-        (members : List NamedMember) → OwnsWhatItBrings t
-        → IsLinkedTo (map spaces_of components) c j t a d (exported_instance members)
-        → IsLinkedTo (map spaces_of components) c k t b d (exported_instance members)
-        → AreAllAlike (map spaces_of components) c d members (items_from t a) (items_from t b) }
-    ensures fails { (components : List (List SectionTree)) (c j k d : ℕ) (t : InstanceTy)
-        (a b : ℕ) (members : List NamedMember) (number : ℕ) (r : LinkReason) → OwnsWhatItBrings t
-        → IsLinkedTo (map spaces_of components) c j t a d (exported_instance members)
-        → IsLinkedTo (map spaces_of components) c k t b d (exported_instance members)
-        → FailsAt (map spaces_of components) c d members (items_from t a) number r
-        → FailsAt (map spaces_of components) c d members (items_from t b) number r }
+    ensures alike { (components : List (List SectionTree)) (sees : Sees) (c j k d : ℕ)
+        (t : InstanceTy) (a b : ℕ) (members : List NamedMember) → OwnsWhatItBrings t
+        → IsLinkedTo (seen_by sees (map spaces_of components)) c j t a d (exported_instance members)
+        → IsLinkedTo (seen_by sees (map spaces_of components)) c k t b d (exported_instance members)
+        → AreAllAlike (seen_by sees (map spaces_of components)) c d members (items_from t a)
+        (items_from t b) }
+    ensures fails { (components : List (List SectionTree)) (sees : Sees) (c j k d : ℕ)
+        (t : InstanceTy) (a b : ℕ) (members : List NamedMember) (number : ℕ) (r : LinkReason)
+        → OwnsWhatItBrings t
+        → IsLinkedTo (seen_by sees (map spaces_of components)) c j t a d (exported_instance members)
+        → IsLinkedTo (seen_by sees (map spaces_of components)) c k t b d (exported_instance members)
+        → FailsAt (seen_by sees (map spaces_of components)) c d members (items_from t a) number r
+        → FailsAt (seen_by sees (map spaces_of components)) c d members (items_from t b) number r }
 {
     resources_are_counted();
     links_lead_earlier();
@@ -85,18 +87,20 @@ pub fn items_are_alike()
 /// An export that serves one of two such imports serves the other; one that does not serve the one
 /// does not serve the other, for the same reason.
 pub fn what_serves_one_serves_both()
-    ensures served { (components : List (List SectionTree)) (c j k d : ℕ) (t : InstanceTy)
-        (a b : ℕ) (e : ExportDef) → OwnsWhatItBrings t
-        → IsLinkedTo (map spaces_of components) c j t a d e
-        → IsLinkedTo (map spaces_of components) c k t b d e
-        → ServesExtern (map spaces_of components) c (instance (items_from t a)) d e
-        → ServesExtern (map spaces_of components) c (instance (items_from t b)) d e }
-    ensures unserved { (components : List (List SectionTree)) (c j k d : ℕ) (t : InstanceTy)
-        (a b : ℕ) (e : ExportDef) (r : LinkReason) → OwnsWhatItBrings t
-        → IsLinkedTo (map spaces_of components) c j t a d e
-        → IsLinkedTo (map spaces_of components) c k t b d e
-        → IsExternUnserved (map spaces_of components) c (instance (items_from t a)) d e r
-        → IsExternUnserved (map spaces_of components) c (instance (items_from t b)) d e r }
+    ensures served { (components : List (List SectionTree)) (sees : Sees) (c j k d : ℕ)
+        (t : InstanceTy) (a b : ℕ) (e : ExportDef) → OwnsWhatItBrings t
+        → IsLinkedTo (seen_by sees (map spaces_of components)) c j t a d e
+        → IsLinkedTo (seen_by sees (map spaces_of components)) c k t b d e
+        → ServesExtern (seen_by sees (map spaces_of components)) c (instance (items_from t a)) d e
+        → ServesExtern (seen_by sees (map spaces_of components)) c (instance (items_from t b)) d e }
+    ensures unserved { (components : List (List SectionTree)) (sees : Sees) (c j k d : ℕ)
+        (t : InstanceTy) (a b : ℕ) (e : ExportDef) (r : LinkReason) → OwnsWhatItBrings t
+        → IsLinkedTo (seen_by sees (map spaces_of components)) c j t a d e
+        → IsLinkedTo (seen_by sees (map spaces_of components)) c k t b d e
+        → IsExternUnserved (seen_by sees (map spaces_of components)) c (instance (items_from t a))
+        d e r
+        → IsExternUnserved (seen_by sees (map spaces_of components)) c (instance (items_from t b))
+        d e r }
 {
     items_are_alike();
 }
@@ -105,22 +109,23 @@ pub fn what_serves_one_serves_both()
 /// of one provider are served alike: where the one is served the other is, and where the one is not
 /// the other is not, for the same reason.
 pub fn imports_are_served_alike()
-    ensures served { (components : List (List SectionTree)) (c j k d : ℕ) (t : InstanceTy)
-        (a b : ℕ) (e : ExportDef) (x y : NamedExtern) → OwnsWhatItBrings t
-        → IsLinkedTo (map spaces_of components) c j t a d e
-        → IsLinkedTo (map spaces_of components) c k t b d e
+    ensures served { (components : List (List SectionTree)) (sees : Sees) (c j k d : ℕ)
+        (t : InstanceTy) (a b : ℕ) (e : ExportDef) (x y : NamedExtern) → OwnsWhatItBrings t
+        → IsLinkedTo (seen_by sees (map spaces_of components)) c j t a d e
+        → IsLinkedTo (seen_by sees (map spaces_of components)) c k t b d e
         → import_in (map spaces_of components) c j ≡ Some x
         → import_in (map spaces_of components) c k ≡ Some y
-        → IsServed (map spaces_of components) (import_at c j x)
-        → IsServed (map spaces_of components) (import_at c k y) }
-    ensures not_served { (components : List (List SectionTree)) (c j k d : ℕ) (t : InstanceTy)
-        (a b : ℕ) (e : ExportDef) (x y : NamedExtern) (r : LinkReason) → OwnsWhatItBrings t
-        → IsLinkedTo (map spaces_of components) c j t a d e
-        → IsLinkedTo (map spaces_of components) c k t b d e
+        → IsServed (seen_by sees (map spaces_of components)) (import_at c j x)
+        → IsServed (seen_by sees (map spaces_of components)) (import_at c k y) }
+    ensures not_served { (components : List (List SectionTree)) (sees : Sees) (c j k d : ℕ)
+        (t : InstanceTy) (a b : ℕ) (e : ExportDef) (x y : NamedExtern) (r : LinkReason)
+        → OwnsWhatItBrings t
+        → IsLinkedTo (seen_by sees (map spaces_of components)) c j t a d e
+        → IsLinkedTo (seen_by sees (map spaces_of components)) c k t b d e
         → import_in (map spaces_of components) c j ≡ Some x
         → import_in (map spaces_of components) c k ≡ Some y
-        → IsNotServed (map spaces_of components) (import_at c j x) r
-        → IsNotServed (map spaces_of components) (import_at c k y) r }
+        → IsNotServed (seen_by sees (map spaces_of components)) (import_at c j x) r
+        → IsNotServed (seen_by sees (map spaces_of components)) (import_at c k y) r }
 {
     what_serves_one_serves_both();
 }

@@ -11,7 +11,7 @@ ghost use Rattle.cm_validate_model.specs.Spaces.{Spaces, spaces_of};
 ghost use Rattle.cm_match_model.specs.declared.fault.LinkReason.{LinkReason};
 ghost use Rattle.cm_match_model.specs.Origins.{LeadEarlier, Links};
 ghost use Rattle.cm_match_model.specs.declared.component.Link.{Link};
-ghost use Rattle.cm_match_model.specs.Imports.{export_in, links_of};
+ghost use Rattle.cm_match_model.specs.Imports.{LinkSet, Sees, export_in, links_of, seen_by};
 ghost use Rattle.cm_match_model.specs.Links.{CanBeLinked, IsLinkFault};
 ghost use Rattle.cm_match_model.specs.Serving.{IsSameFunc};
 ghost use Rattle.cm_validate_model.specs.Imported.{wanted_func};
@@ -23,20 +23,20 @@ use cm_validate_model::function_laws::{functions_are_as_imported, what_functions
 
 /// An import is linked to an export of an earlier component.
 pub fn links_lead_earlier()
-    ensures { (set : List Spaces) → LeadEarlier (links_of set) }
+    ensures { (set : LinkSet) → LeadEarlier (links_of set) }
 {}
 
 /// An import is linked to an export that is there.
 pub fn links_name_exports()
-    ensures { (set : List Spaces) (c n : ℕ) (l : Link) → links_of set c n ≡ Some l
-        → (e : ExportDef) × (export_in set l.component l.export ≡ Some e) }
+    ensures { (set : LinkSet) (c n : ℕ) (l : Link) → links_of set c n ≡ Some l
+        → (e : ExportDef) × (export_in set.spaces l.component l.export ≡ Some e) }
 {}
 
 /// A set that can be linked has no fault, and no set has two.
 pub fn sets_have_one_answer()
-    ensures never_both { (set : List Spaces) (c n : ℕ) (r : LinkReason)
+    ensures never_both { (set : LinkSet) (c n : ℕ) (r : LinkReason)
         → CanBeLinked set → IsLinkFault set c n r → ⊥ }
-    ensures one { (set : List Spaces) (c d m n : ℕ) (q r : LinkReason)
+    ensures one { (set : LinkSet) (c d m n : ℕ) (q r : LinkReason)
         → IsLinkFault set c m q → IsLinkFault set d n r → (c ≡ d) × (m ≡ n) × (q ≡ r) }
 {}
 
@@ -54,22 +54,24 @@ pub fn targets_are_unique()
 /// In a set that can be linked, each function that a component imports, by itself or as an item of
 /// an instance, is served by a function of an earlier component of the same type.
 pub fn imported_functions_are_served()
-    ensures { (set : List Spaces) → CanBeLinked set → (c : ℕ) (s : Spaces)
-        → slice_get set c ≡ Some s → (import : ℕ) (item : Option ℕ) (f : FuncTy)
+    ensures { (set : LinkSet) → CanBeLinked set → (c : ℕ) (s : Spaces)
+        → slice_get set.spaces c ≡ Some s → (import : ℕ) (item : Option ℕ) (f : FuncTy)
         → wanted_func s import item ≡ Some f
-        → (g : FuncAt) × (serving_func set (links_of set) c import item ≡ Some g)
+        → (g : FuncAt) × (serving_func set.spaces (links_of set) c import item ≡ Some g)
         × (g.component < c) × IsSameFunc set c f g.component (func_type_of g.func) }
 {}
 
 /// In a set that can be linked, each function that a component imports, by itself or as an item of
 /// an instance, comes to a lifted function of an earlier component of the same type.
 pub fn imported_functions_reach_lifts()
-    ensures { (components : List (List SectionTree)) → CanBeLinked (map spaces_of components)
+    ensures { (components : List (List SectionTree)) (sees : Sees)
+        → CanBeLinked (seen_by sees (map spaces_of components))
         → (c import : ℕ) (s : Spaces) (item : Option ℕ) (f : FuncTy)
         → slice_get (map spaces_of components) c ≡ Some s → wanted_func s import item ≡ Some f
         → (t : Target) × (targets_of (map spaces_of components)
-        (links_of (map spaces_of components)) c import item ≡ Some t)
-        × (t.component < c) × IsSameFunc (map spaces_of components) c f t.component t.ty }
+        (links_of (seen_by sees (map spaces_of components))) c import item ≡ Some t)
+        × (t.component < c)
+        × IsSameFunc (seen_by sees (map spaces_of components)) c f t.component t.ty }
 {
     imported_functions_are_served();
     functions_are_as_imported();
@@ -78,10 +80,11 @@ pub fn imported_functions_reach_lifts()
 /// Where components are valid, an imported function comes to a lift of a guest's core function of
 /// its component, with options that name what is there and that its type needs.
 pub fn targets_are_lifts()
-    ensures { (components : List (List SectionTree)) → AllByRecursion IsValid components
+    ensures { (components : List (List SectionTree)) (sees : Sees)
+        → AllByRecursion IsValid components
         → (c import : ℕ) (item : Option ℕ) (t : Target)
-        → targets_of (map spaces_of components) (links_of (map spaces_of components)) c import
-        item ≡ Some t
+        → targets_of (map spaces_of components) (links_of (seen_by sees (map spaces_of components)))
+        c import item ≡ Some t
         → (s : Spaces) × (slice_get (map spaces_of components) t.component ≡ Some s)
         × IsLiftWhole s (lifted t.core_func t.ty t.options) }
 {

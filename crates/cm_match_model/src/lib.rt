@@ -13,9 +13,12 @@ mod fault;
 pub mod laws;
 pub mod origin_laws;
 mod plan;
+mod sight;
+pub mod sight_laws;
 pub mod target_laws;
 
 pub use candidates::Candidate;
 pub use component::Link;
 pub use fault::{LinkFault, LinkReason};
 pub use plan::{MAX_COMPONENTS, PlanLine};
+pub use sight::{Choices, Place};

@@ -7,7 +7,7 @@ ghost use Rattle.cm_validate_model.specs.Definitions.{lifted};
 ghost use Rattle.cm_validate_model.specs.Items.{all_items};
 ghost use Rattle.cm_validate_model.specs.Sources.{IsAdded};
 ghost use Rattle.cm_validate_model.specs.Spaces.{spaces_of};
-ghost use Rattle.cm_match_model.specs.Imports.{links_of};
+ghost use Rattle.cm_match_model.specs.Imports.{Sees, links_of, seen_by};
 ghost use Rattle.cm_match_model.specs.Targets.{Target, targets_of};
 
 use cm_validate_model::function_laws::functions_come_from_items;
@@ -15,9 +15,9 @@ use cm_validate_model::function_laws::functions_come_from_items;
 /// Whether components are valid or not, an imported function comes to a function that a lift of its
 /// component adds, with the core function and the options of that lift.
 pub fn targets_are_written()
-    ensures { (components : List (List SectionTree)) (c import : ℕ) (item : Option ℕ) (t : Target)
-        → targets_of (map spaces_of components) (links_of (map spaces_of components)) c import
-        item ≡ Some t
+    ensures { (components : List (List SectionTree)) (sees : Sees) (c import : ℕ) (item : Option ℕ)
+        (t : Target) → targets_of (map spaces_of components)
+        (links_of (seen_by sees (map spaces_of components))) c import item ≡ Some t
         → IsAdded (all_items (unwrap_or (slice_get components t.component) []))
         (lifted t.core_func t.ty t.options) }
 {

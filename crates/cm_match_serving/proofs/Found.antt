@@ -28,7 +28,7 @@ use Rattle.cm_match_model.specs.Origins.{exported_resource, item_name, items_of,
 use Rattle.cm_match_serving.specs.ToldSets.{member_of, source_by, source_of}
 use Rattle.cm_match_model.specs.declared.component.Link.{Link}
 use Rattle.cm_match_model.specs.Imports.{export_in, import_in}
-use Rattle.cm_match_serving.specs.Sets.{funcs_at, set_of, types_at}
+use Rattle.cm_match_serving.specs.Sets.{funcs_at, spaces_of_all, types_at}
 use Rattle.cm_match_serving.proofs.Rows.{set_at}
 use Rattle.cm_lemmas.proofs.Lists.{got}
 
@@ -46,11 +46,11 @@ module _ (cs : List Checked) (c : ℕ) (x : Checked) (there : slice_get cs c ≡
   funcs_there : funcs_at cs c ≡ funcs_in x
   funcs_there = ap (λ o. option_map_or funcs_in o []) there
 
-  pub space_there : slice_get (set_of cs) c ≡ Some (spaces_in x)
+  pub space_there : slice_get (spaces_of_all cs) c ≡ Some (spaces_in x)
   space_there = set_at cs c ∙ ap (option_map spaces_in) there
 
   pub import_read : (i : ℕ) (es : List Extern) (r : Option (Bor Extern)) → (spaces_in x).imports ≡ map (extern_of (types_in x) (funcs_in x)) es → IsItemAt es i r
-      → option_map (λ e. extern_of (types_at cs c) (funcs_at cs c) e.now) r ≡ import_in (set_of cs) c i
+      → option_map (λ e. extern_of (types_at cs c) (funcs_at cs c) e.now) r ≡ import_in (spaces_of_all cs) c i
   import_read i es r are h =
       got_by (extern_of (types_at cs c) (funcs_at cs c)) es i r h
       ∙ ap (λ ts. option_map (extern_of ts (funcs_at cs c)) (slice_get es i)) types_there
@@ -60,7 +60,7 @@ module _ (cs : List Checked) (c : ℕ) (x : Checked) (there : slice_get cs c ≡
       ∙ sym (ap (option_and_then (λ s. slice_get s.imports i)) space_there)
 
   pub export_read : (i : ℕ) (es : List ExportEntry) (r : Option (Bor ExportEntry)) → (spaces_in x).exports ≡ map (export_def (types_in x) (funcs_in x)) es → IsItemAt es i r
-      → option_map (λ e. (export_def (types_at cs c) (funcs_at cs c) e.now).def) r ≡ export_in (set_of cs) c i
+      → option_map (λ e. (export_def (types_at cs c) (funcs_at cs c) e.now).def) r ≡ export_in (spaces_of_all cs) c i
   export_read i es r are h =
       got_by (λ e. (export_def (types_at cs c) (funcs_at cs c) e).def) es i r h
       ∙ ap (λ ts. option_map (λ e. (export_def ts (funcs_at cs c) e).def) (slice_get es i)) types_there
@@ -73,10 +73,22 @@ module _ (cs : List Checked) (c : ℕ) (x : Checked) (there : slice_get cs c ≡
       defs None = refl
       defs (Some e) = refl
 
+  -- the name of an export
+  pub name_read : (i : ℕ) (es : List ExportEntry) (r : Option (Bor ExportEntry)) → (spaces_in x).exports ≡ map (export_def (types_in x) (funcs_in x)) es → IsItemAt es i r
+      → option_map (λ (e : Bor ExportEntry). e.now.name.now) r ≡ option_map (λ (e : NamedExport). e.name) (option_and_then (λ s. slice_get s.exports i) (slice_get (spaces_of_all cs) c))
+  name_read i es r are h =
+      got_by (λ (e : ExportEntry). e.name.now) es i r h
+      ∙ names (slice_get es i)
+      ∙ ap (option_map (λ (e : NamedExport). e.name)) (sym (slice_get-map (export_def (types_in x) (funcs_in x)) es i) ∙ ap (λ ys. slice_get ys i) (sym are) ∙ sym (ap (option_and_then (λ s. slice_get s.exports i)) space_there))
+    where
+      names : (o : Option ExportEntry) → option_map (λ (e : ExportEntry). e.name.now) o ≡ option_map (λ (e : NamedExport). e.name) (option_map (export_def (types_in x) (funcs_in x)) o)
+      names None = refl
+      names (Some e) = refl
+
   -- where a resource comes from
-  pub source_told : (n : ℕ) (r : Option Resource) → option_map resource_def r ≡ slice_get (spaces_in x).resources n → source_of (set_of cs) (resource_of c n) ≡ option_map (source_by (set_of cs) c) (option_map resource_def r)
+  pub source_told : (n : ℕ) (r : Option Resource) → option_map resource_def r ≡ slice_get (spaces_in x).resources n → source_of (spaces_of_all cs) (resource_of c n) ≡ option_map (source_by (spaces_of_all cs) c) (option_map resource_def r)
   source_told n r is =
-      ap (λ o. option_map (source_by (set_of cs) c) (option_and_then (λ s. slice_get s.resources n) o)) space_there ∙ ap (option_map (source_by (set_of cs) c)) (sym is)
+      ap (λ o. option_map (source_by (spaces_of_all cs) c) (option_and_then (λ s. slice_get s.resources n) o)) space_there ∙ ap (option_map (source_by (spaces_of_all cs) c)) (sym is)
 
 -- the resource that an export has under a name
 pub member_told : (set : List Spaces) (l : Link) (name : List ℕ) → member_of set l name ≡ option_and_then resource_member (option_and_then (λ e. member_named (members_of e) name) (export_in set l.component l.export))

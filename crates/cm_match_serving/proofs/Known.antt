@@ -16,9 +16,11 @@ use Rattle.cm_types_numbers.specs.declared.known_placed.KnownPlaced.{KnownPlaced
 use Rattle.cm_match_serving.specs.cm_validate_spaces.Checked.{funcs_in, types_in}
 use Rattle.cm_match_serving.specs.cm_validate_spaces.declared.checked.Checked.{Checked}
 use Rattle.cm_match_model.specs.Serving.{standing}
-use Rattle.cm_match_serving.specs.Sets.{funcs_at, set_of, types_at}
+use Rattle.cm_match_serving.specs.Linkings.{components_in, set_in}
+use Rattle.cm_match_serving.specs.Sets.{funcs_at, types_at}
 use Rattle.cm_match_serving.specs.Knowing.{AreUnknown, KnowsAll}
 use Rattle.cm_match_serving.specs.Tables.{AreKnown}
+use Rattle.cm_match_serving.specs.declared.linking.Linking.{Linking}
 use Rattle.cm_match_serving.specs.declared.tables.Tables.{Tables}
 use Rattle.cm_lemmas.proofs.Options.{some_is}
 
@@ -73,21 +75,21 @@ knows_all t s types funcs a k e f h b g i = record {
 
 -- that of one component
 pub known_next : ((old new : Numbering) (s : Standing) (types : Types) (known : KnownPlaced) → Extends old new → KnowsPlaced old s types known → KnowsPlaced new s types known)
-    → (cs : List Checked) (old : Tables) (numbers : Numbers) (c : ℕ) (arena : Types) (k : KnownPlaced) → AreKnown cs old → Extends (numbering old.numbers) (numbering numbers)
-    → types_of arena ≡ types_at cs c → funcs_of arena ≡ funcs_at cs c → KnowsPlaced (numbering numbers) (standing (set_of cs) c) arena k
-    → AreKnown cs (record { numbers = numbers; known = with_item old.known c k })
-known_next stay cs old numbers c arena k h more e f knows = record {
+    → (l : Linking) (old : Tables) (numbers : Numbers) (c : ℕ) (arena : Types) (k : KnownPlaced) → AreKnown l old → Extends (numbering old.numbers) (numbering numbers)
+    → types_of arena ≡ types_at (components_in l) c → funcs_of arena ≡ funcs_at (components_in l) c → KnowsPlaced (numbering numbers) (standing (set_in l) c) arena k
+    → AreKnown l (record { numbers = numbers; known = with_item old.known c k })
+known_next stay l old numbers c arena k h more e f knows = record {
   count = length-set old.known.items c k ∙ h.count;
   each = each;
 }
   where
-    each : (d : ℕ) (j : KnownPlaced) → slice_get (set old.known.items c k) d ≡ Some j → KnowsAll (numbering numbers) (standing (set_of cs) d) (types_at cs d) (funcs_at cs d) j
+    each : (d : ℕ) (j : KnownPlaced) → slice_get (set old.known.items c k) d ≡ Some j → KnowsAll (numbering numbers) (standing (set_in l) d) (types_at (components_in l) d) (funcs_at (components_in l) d) j
     each d j at = elim (either d c) [
       | inl same ↦
           let is_new : k ≡ j = put_here old.known.items c k j (ap (slice_get (set old.known.items c k)) (sym same) ∙ at) in
-          subst (λ (n : ℕ). KnowsAll (numbering numbers) (standing (set_of cs) n) (types_at cs n) (funcs_at cs n) j) (sym same)
-          (subst (KnowsAll (numbering numbers) (standing (set_of cs) c) (types_at cs c) (funcs_at cs c)) is_new (knows_all (numbering numbers) (standing (set_of cs) c) (types_at cs c) (funcs_at cs c) arena k e f knows))
-      | inr other ↦ λ a g i. stay (numbering old.numbers) (numbering numbers) (standing (set_of cs) d) a j more (h.each d j (sym (put_other old.known.items c d k other) ∙ at) a g i)
+          subst (λ (n : ℕ). KnowsAll (numbering numbers) (standing (set_in l) n) (types_at (components_in l) n) (funcs_at (components_in l) n) j) (sym same)
+          (subst (KnowsAll (numbering numbers) (standing (set_in l) c) (types_at (components_in l) c) (funcs_at (components_in l) c)) is_new (knows_all (numbering numbers) (standing (set_in l) c) (types_at (components_in l) c) (funcs_at (components_in l) c) arena k e f knows))
+      | inr other ↦ λ a g i. stay (numbering old.numbers) (numbering numbers) (standing (set_in l) d) a j more (h.each d j (sym (put_other old.known.items c d k other) ∙ at) a g i)
     ]
 
 -- ---- the arena of a component

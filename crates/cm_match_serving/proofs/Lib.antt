@@ -3,6 +3,8 @@ mod Same
 pub mod Judging
 mod Walks
 pub mod Rows
+mod Seeing
+mod CandidateRows
 mod Links
 mod Found
 mod GreatestLaws

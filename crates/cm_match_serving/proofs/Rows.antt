@@ -8,21 +8,17 @@ use Rattle.cm_validate_model.specs.Spaces.{Spaces}
 use Rattle.cm_validate_spaces.specs.Checked.{spaces_in}
 use Rattle.cm_validate_spaces.specs.declared.checked.Checked.{Checked}
 use Rattle.cm_match_model.specs.Imports.{all_exports_from, exports_before, exports_from}
-use Rattle.cm_match_serving.specs.Sets.{set_of}
+use Rattle.cm_match_serving.specs.Candidates.{each_from}
+use Rattle.cm_match_serving.specs.Sets.{spaces_of_all}
 use Rattle.cm_lemmas.proofs.Lists.{map_length, nil_right, take_all, take_one}
 use Rattle.cm_match_serving.proofs.Judging.{set_length}
-
--- what is said of each of these, numbered from here on
-abbrev pub rows_from : {A : Type 0} → (ℕ → Spaces → A) → ℕ → List Spaces → List A
-rows_from f n [] = []
-rows_from f n (s ∷ ss) = f n s ∷ rows_from f (n + 1) ss
 
 -- ---- what stands at a place
 
 pub read_at : {A : Type 0} (xs : List A) (n : ℕ) (x : A) → n < length xs → x ≡ get_or xs n x → slice_get xs n ≡ Some x
 read_at xs n x lt is = slice_get-get_or xs n x lt ∙ ap Some (sym is)
 
-pub set_at : (cs : List Checked) (k : ℕ) → slice_get (set_of cs) k ≡ option_map spaces_in (slice_get cs k)
+pub set_at : (cs : List Checked) (k : ℕ) → slice_get (spaces_of_all cs) k ≡ option_map spaces_in (slice_get cs k)
 set_at [] zero = refl
 set_at [] (suc k) = refl
 set_at (c ∷ cs) zero = refl
@@ -41,31 +37,37 @@ mapped_twice g f (x ∷ xs) = ap (λ zs. g (f x) ∷ zs) (mapped_twice g f xs)
 
 -- ---- rows
 
-rows_last : {A : Type 0} (f : ℕ → Spaces → A) (n : ℕ) (ss : List Spaces) (s : Spaces) → rows_from f n (ss ++ s ∷ []) ≡ rows_from f n ss ++ f (n + length ss) s ∷ []
-rows_last f n [] s = ap (λ k. f k s ∷ []) (omega arith)
-rows_last f n (t ∷ ts) s =
-    let same : (n + 1) + length ts ≡ n + length (t ∷ ts) = omega arith in
-    ap (λ rs. f n t ∷ rs) (rows_last f (n + 1) ts s) ∙ ap (λ k. f n t ∷ (rows_from f (n + 1) ts ++ f k s ∷ [])) same
+each_last : {A B : Type 0} (f : ℕ → A → B) (n : ℕ) (xs : List A) (x : A) → each_from f n (xs ++ x ∷ []) ≡ each_from f n xs ++ f (n + length xs) x ∷ []
+each_last f n [] x = ap (λ k. f k x ∷ []) (omega arith)
+each_last f n (y ∷ ys) x =
+    let same : (n + 1) + length ys ≡ n + length (y ∷ ys) = omega arith in
+    ap (λ rs. f n y ∷ rs) (each_last f (n + 1) ys x) ∙ ap (λ k. f n y ∷ (each_from f (n + 1) ys ++ f k x ∷ [])) same
 
-pub rows_next : {A : Type 0} (f : ℕ → Spaces → A) (set : List Spaces) (n : ℕ) (s : Spaces) → slice_get set n ≡ Some s → rows_from f 0 (take (n + 1) set) ≡ rows_from f 0 (take n set) ++ f n s ∷ []
-rows_next f set n s h =
-    ap (rows_from f 0) (take_one set n s h) ∙ rows_last f 0 (take n set) s
-    ∙ ap (λ k. rows_from f 0 (take n set) ++ f k s ∷ []) (taken_length set n s h)
+pub each_next : {A B : Type 0} (f : ℕ → A → B) (xs : List A) (n : ℕ) (x : A) → slice_get xs n ≡ Some x → each_from f 0 (take (n + 1) xs) ≡ each_from f 0 (take n xs) ++ f n x ∷ []
+each_next f xs n x h =
+    ap (each_from f 0) (take_one xs n x h) ∙ each_last f 0 (take n xs) x
+    ∙ ap (λ k. each_from f 0 (take n xs) ++ f k x ∷ []) (taken_length xs n x h)
 
-pub row_at : {A : Type 0} (f : ℕ → Spaces → A) (n : ℕ) (ss : List Spaces) (k : ℕ) → slice_get (rows_from f n ss) k ≡ option_map (f (n + k)) (slice_get ss k)
-row_at f n [] zero = refl
-row_at f n [] (suc k) = refl
-row_at f n (s ∷ ss) zero = ap (λ m. Some (f m s)) (omega arith)
-row_at f n (s ∷ ss) (suc k) =
+pub each_next_of : {A B C : Type 0} (f : ℕ → B → C) (g : A → B) (xs : List A) (n : ℕ) (x : A) → slice_get xs n ≡ Some x → each_from f 0 (map g (take (n + 1) xs)) ≡ each_from f 0 (map g (take n xs)) ++ f n (g x) ∷ []
+each_next_of f g xs n x h =
+    let places : 0 + length (map g (take n xs)) ≡ n = ap (λ k. 0 + k) (map_length g (take n xs)) ∙ taken_length xs n x h in
+    ap (λ ys. each_from f 0 (map g ys)) (take_one xs n x h) ∙ ap (each_from f 0) (mapped_last g (take n xs) x) ∙ each_last f 0 (map g (take n xs)) (g x)
+    ∙ ap (λ k. each_from f 0 (map g (take n xs)) ++ f k (g x) ∷ []) places
+
+pub each_at : {A B : Type 0} (f : ℕ → A → B) (n : ℕ) (xs : List A) (k : ℕ) → slice_get (each_from f n xs) k ≡ option_map (f (n + k)) (slice_get xs k)
+each_at f n [] zero = refl
+each_at f n [] (suc k) = refl
+each_at f n (x ∷ xs) zero = ap (λ m. Some (f m x)) (omega arith)
+each_at f n (x ∷ xs) (suc k) =
     let same : (n + 1) + k ≡ n + suc k = omega arith in
-    row_at f (n + 1) ss k ∙ ap (λ m. option_map (f m) (slice_get ss k)) same
+    each_at f (n + 1) xs k ∙ ap (λ m. option_map (f m) (slice_get xs k)) same
 
 -- the rows of all components
 pub all_rows : {A R : Type 0} (f : ℕ → Spaces → A) (view : R → A) (cs : List Checked) (n : ℕ) (rows : List R) → length cs ≤ n
-    → map view rows ≡ rows_from f 0 (take n (set_of cs)) → (k : ℕ) → option_map view (slice_get rows k) ≡ option_map (f k) (slice_get (set_of cs) k)
+    → map view rows ≡ each_from f 0 (take n (spaces_of_all cs)) → (k : ℕ) → option_map view (slice_get rows k) ≡ option_map (f k) (slice_get (spaces_of_all cs) k)
 all_rows f view cs n rows le is k =
-    sym (slice_get-map view rows k) ∙ ap (λ rs. slice_get rs k) (is ∙ ap (rows_from f 0) (take_all (set_of cs) n (omega (arith, le, set_length cs))))
-    ∙ row_at f 0 (set_of cs) k ∙ ap (λ m. option_map (f m) (slice_get (set_of cs) k)) zero_more
+    sym (slice_get-map view rows k) ∙ ap (λ rs. slice_get rs k) (is ∙ ap (each_from f 0) (take_all (spaces_of_all cs) n (omega (arith, le, set_length cs))))
+    ∙ each_at f 0 (spaces_of_all cs) k ∙ ap (λ m. option_map (f m) (slice_get (spaces_of_all cs) k)) zero_more
   where
     zero_more : 0 + k ≡ k
     zero_more = omega arith

@@ -29,8 +29,8 @@ func_stays old new stay s f n is = ap (head_of None) (stay s (f ∷ []) (n ∷ [
 
 -- ---- sides of a pair
 
-pub known_at : (l m : Linking) (t : Tables) → l ≡ m → AreKnown (components_in l) t → AreKnown (components_in m) t
-known_at l m t e h = subst (λ (k : Linking). AreKnown (components_in k) t) e h
+pub known_at : (l m : Linking) (t : Tables) → l ≡ m → AreKnown l t → AreKnown m t
+known_at l m t e h = subst (λ (k : Linking). AreKnown k t) e h
 
 type_of_side : Brought → Linking → ℕ → Ty
 type_of_side x l c = replaced (standing (set_in l) c) (type_brought (types_at (components_in l) c) x)

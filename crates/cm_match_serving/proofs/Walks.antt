@@ -8,7 +8,7 @@ use Rattle.cm_types_arena.specs.Placed.{moved_by}
 use Rattle.cm_types_arena.specs.Instances.{item_of, items_of, replaced_item}
 use Rattle.cm_types_arena.specs.declared.instances.Item.{Item}
 use Rattle.cm_validate_model.specs.Definitions.{NamedMember, exported_instance}
-use Rattle.cm_validate_model.specs.Spaces.{Spaces}
+use Rattle.cm_match_model.specs.Imports.{LinkSet}
 use Rattle.cm_match_model.specs.declared.fault.LinkReason.{LinkReason}
 use Rattle.cm_match_model.specs.Serving.{IsItemServed, item_under}
 use Rattle.cm_match_serving.specs.Answers.{JudgesExtern, JudgesItem}
@@ -37,7 +37,7 @@ whole f P [] n le h = tt {0}
 whole f P (y ∷ ys) zero le h = absurd (omega (arith, le))
 whole f P (y ∷ ys) (suc n) le h = (h.0, whole f P ys n (omega (arith, le)) h.1)
 
-module _ (set : List Spaces) (c : ℕ) (types : List Ty) (funcs : List FuncTy) (by : Option Move) (d : ℕ) (ms : List NamedMember) (xs : List Item) where
+module _ (set : LinkSet) (c : ℕ) (types : List Ty) (funcs : List FuncTy) (by : Option Move) (d : ℕ) (ms : List NamedMember) (xs : List Item) where
   abbrev pub AllServed : ℕ → Type 0
   AllServed n = AllByRecursion (IsItemServed set c d ms) (map (wanted_item types funcs by) (take n xs))
 

@@ -7,9 +7,8 @@ use Rattle.cm_types_arena.specs.Placed.{moved_by}
 use Rattle.cm_types_arena.specs.Instances.{desc_of, replaced_desc}
 use Rattle.cm_types_arena.specs.declared.instances.ItemDesc.{ItemDesc}
 use Rattle.cm_validate_model.specs.Definitions.{ExportDef}
-use Rattle.cm_validate_model.specs.Spaces.{Spaces}
 use Rattle.cm_match_model.specs.declared.fault.LinkReason.{LinkReason}
-use Rattle.cm_match_model.specs.Imports.{ImportAt}
+use Rattle.cm_match_model.specs.Imports.{ImportAt, LinkSet}
 use Rattle.cm_match_model.specs.Links.{IsNotServed, IsServed}
 use Rattle.cm_match_model.specs.Serving.{IsExternUnserved, IsUnserved, Serves, ServesExtern}
 
@@ -23,16 +22,16 @@ Judges fact reason None = fact
 Judges fact reason (Some r) = (r ≡ reason) × (fact → ⊥)
 
 -- what is wanted is served by what is there, or is not for this reason
-abbrev pub JudgesItem : List Spaces → ℕ → ItemTy → ℕ → Option ItemTy → Option LinkReason → Type 0
+abbrev pub JudgesItem : LinkSet → ℕ → ItemTy → ℕ → Option ItemTy → Option LinkReason → Type 0
 JudgesItem set c wanted d have None = (h : ItemTy) × (have ≡ Some h) × Serves set c wanted d h
 JudgesItem set c wanted d have (Some r) = IsUnserved set c wanted d have r
 
 -- what is imported is served by what is exported, or is not for this reason
-abbrev pub JudgesExtern : List Spaces → ℕ → ExternTy → ℕ → ExportDef → Option LinkReason → Type 0
+abbrev pub JudgesExtern : LinkSet → ℕ → ExternTy → ℕ → ExportDef → Option LinkReason → Type 0
 JudgesExtern set c x d e None = ServesExtern set c x d e
 JudgesExtern set c x d e (Some r) = IsExternUnserved set c x d e r
 
 -- an import is served, or is not for this reason
-abbrev pub JudgesImport : List Spaces → ImportAt → Option LinkReason → Type 0
+abbrev pub JudgesImport : LinkSet → ImportAt → Option LinkReason → Type 0
 JudgesImport set i None = IsServed set i
 JudgesImport set i (Some r) = IsNotServed set i r

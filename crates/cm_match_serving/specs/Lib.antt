@@ -5,7 +5,7 @@ pub mod Answers
 pub use Rattle.cm_validate_spaces.specs as cm_validate_spaces
 pub use Rattle.cm_validate_spaces.specs.cm_validate_entries
 pub mod Sets
-pub mod Choices
+pub mod Candidates
 pub mod Linkings
 pub mod Readings
 pub mod Greatest

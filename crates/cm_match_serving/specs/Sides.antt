@@ -2,7 +2,7 @@
 use Rattle.std.specs.Prelude.{List}
 use Rattle.cm_types.specs.Types.{Ty, FuncTy}
 use Rattle.cm_types_arena.specs.Replaced.{Standing}
-use Rattle.cm_validate_model.specs.Spaces.{Spaces}
+use Rattle.cm_match_model.specs.Imports.{LinkSet}
 use Rattle.cm_match_model.specs.Serving.{standing}
 use Rattle.cm_match_serving.specs.Linkings.{components_in, set_in}
 use Rattle.cm_match_serving.specs.Sets.{types_at, funcs_at}
@@ -22,7 +22,7 @@ funcs_in s = funcs_at (components_in s.linking) s.component
 
 -- the set of two, and the types and types of functions of the one that imports, and of the one that
 -- exports
-abbrev pub set_of_pair : Pair → List Spaces
+abbrev pub set_of_pair : Pair → LinkSet
 set_of_pair p = set_in p.linking
 
 abbrev pub wanted_types : Pair → List Ty

@@ -7,10 +7,11 @@ use Rattle.cm_types_numbers.specs.Numbering.{numbering}
 use Rattle.cm_types_numbers.specs.Moved.{brought_by}
 use Rattle.cm_types_numbers.specs.declared.known_placed.KnownPlaced.{KnownPlaced}
 use Rattle.cm_types_numbers.specs.declared.moves.Brought.{Brought}
-use Rattle.cm_match_serving.specs.cm_validate_spaces.declared.checked.Checked.{Checked}
 use Rattle.cm_match_model.specs.Serving.{standing}
-use Rattle.cm_match_serving.specs.Sets.{set_of, types_at, funcs_at}
+use Rattle.cm_match_serving.specs.Linkings.{components_in, set_in}
+use Rattle.cm_match_serving.specs.Sets.{types_at, funcs_at}
 use Rattle.cm_match_serving.specs.Knowing.{KnowsAll}
+use Rattle.cm_match_serving.specs.declared.linking.Linking.{Linking}
 use Rattle.cm_match_serving.specs.declared.tables.Tables.{Tables}
 
 -- a type, and the type of a function, that an item brings, among those of an arena
@@ -22,7 +23,8 @@ func_brought funcs b = replaced_func (brought_by b) (func_at funcs b.ty.place)
 
 -- What is known of the types of each component of a set are their numbers, each resource replaced
 -- by what it is in the end.
-pub record AreKnown (cs : List Checked) (t : Tables) : Type 0 where
-  pub count : length t.known.items ≡ length cs
+pub record AreKnown (l : Linking) (t : Tables) : Type 0 where
+  pub count : length t.known.items ≡ length (components_in l)
   pub each : (c : ℕ) (k : KnownPlaced) → slice_get t.known.items c ≡ Some k
-      → KnowsAll (numbering t.numbers) (standing (set_of cs) c) (types_at cs c) (funcs_at cs c) k
+      → KnowsAll (numbering t.numbers) (standing (set_in l) c) (types_at (components_in l) c)
+      (funcs_at (components_in l) c) k

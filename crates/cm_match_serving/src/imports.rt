@@ -12,7 +12,7 @@ impl Tables {
     ghost use Rattle.cm_types.specs.Signatures.{NamedExtern};
     ghost use Rattle.cm_validate_model.specs.Definitions.{ExportDef};
     ghost use Rattle.cm_match_model.specs.Imports.{export_in, import_at, import_in};
-    ghost use Rattle.cm_match_serving.specs.Linkings.{components_in, set_in};
+    ghost use Rattle.cm_match_serving.specs.Linkings.{set_in};
     ghost use Rattle.cm_match_serving.specs.Answers.{JudgesExtern, JudgesImport};
     ghost use Rattle.cm_match_serving.specs.Tables.{AreKnown};
 
@@ -26,12 +26,12 @@ impl Tables {
         provider: usize,
         export: usize,
     ) -> Result<Option<LinkReason>, AllocError>
-        requires { AreKnown (components_in linking.now) self.old }
+        requires { AreKnown linking.now self.old }
         ensures fault { IfOk result (λ r. (x : NamedExtern) (e : ExportDef)
-            → import_in (set_in linking.now) importer import ≡ Some x
-            → export_in (set_in linking.now) provider export ≡ Some e
+            → import_in (set_in linking.now).spaces importer import ≡ Some x
+            → export_in (set_in linking.now).spaces provider export ≡ Some e
             → JudgesExtern (set_in linking.now) importer x.desc provider e r) }
-        ensures known { OnOk result (AreKnown (components_in linking.now) self.new) }
+        ensures known { OnOk result (AreKnown linking.now self.new) }
     {
         let Some(wanted) = linking.import(importer, import) else {
             return Ok(None);
@@ -63,17 +63,17 @@ impl Tables {
         component: usize,
         import: usize,
     ) -> Result<Option<LinkReason>, AllocError>
-        requires { AreKnown (components_in linking.now) self.old }
+        requires { AreKnown linking.now self.old }
         ensures fault { IfOk result (λ r. (x : NamedExtern)
-            → import_in (set_in linking.now) component import ≡ Some x
+            → import_in (set_in linking.now).spaces component import ≡ Some x
             → JudgesImport (set_in linking.now) (import_at component import x) r) }
-        ensures known { OnOk result (AreKnown (components_in linking.now) self.new) }
+        ensures known { OnOk result (AreKnown linking.now self.new) }
     {
         links_name_exports();
-        let Some(choice) = linking.choice(component, import) else {
+        let Some(candidate) = linking.candidate(component, import) else {
             return Ok(None);
         };
-        match choice {
+        match candidate {
             Candidate::None => Ok(Some(LinkReason::NoProvider)),
             Candidate::Several => Ok(Some(LinkReason::TwoProviders)),
             Candidate::One {

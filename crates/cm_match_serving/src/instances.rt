@@ -18,7 +18,6 @@ impl Tables {
     ghost use Rattle.cm_validate_entries.specs.ComponentSpaces.{exported_def};
     ghost use Rattle.cm_validate_entries.specs.Entries.{members_of};
     ghost use Rattle.cm_match_model.specs.Serving.{item_under};
-    ghost use Rattle.cm_match_serving.specs.Linkings.{components_in};
     ghost use Rattle.cm_match_serving.specs.Answers.{JudgesExtern, JudgesItem, wanted_desc};
     ghost use Rattle.cm_match_serving.specs.Sides.{had_funcs, had_types, set_of_pair};
     ghost use Rattle.cm_match_serving.specs.Sides.{wanted_funcs, wanted_types};
@@ -34,13 +33,13 @@ impl Tables {
         by: Option<Move>,
         have: &InstanceEntry<'_>,
     ) -> Result<Option<LinkReason>, AllocError>
-        requires { AreKnown (components_in pair.now.linking) self.old }
+        requires { AreKnown pair.now.linking self.old }
         ensures fault { IfOk result (JudgesItem (set_of_pair pair.now) pair.now.importer
             (wanted_desc (wanted_types pair.now) (wanted_funcs pair.now) by wanted.now.desc)
             pair.now.provider
             (item_under (members_of (had_types pair.now) (had_funcs pair.now) have.now)
             wanted.now.name)) }
-        ensures known { OnOk result (AreKnown (components_in pair.now.linking) self.new) }
+        ensures known { OnOk result (AreKnown pair.now.linking self.new) }
     {
         match have.member(wanted.name.as_str()) {
             None => Ok(Some(LinkReason::MissingExport)),
@@ -58,13 +57,13 @@ impl Tables {
         by: Option<Move>,
         have: &InstanceEntry<'_>,
     ) -> Result<Option<LinkReason>, AllocError>
-        requires { AreKnown (components_in pair.now.linking) self.old }
+        requires { AreKnown pair.now.linking self.old }
         ensures fault { IfOk result (JudgesExtern (set_of_pair pair.now) pair.now.importer
             (instance (map (replaced_item (moved_by by))
             (items_of (wanted_types pair.now) (wanted_funcs pair.now) wanted.now)))
             pair.now.provider
             (exported_instance (members_of (had_types pair.now) (had_funcs pair.now) have.now))) }
-        ensures known { OnOk result (AreKnown (components_in pair.now.linking) self.new) }
+        ensures known { OnOk result (AreKnown pair.now.linking self.new) }
     {
         for item in wanted {
             let fault = self.under_fault(alloc, pair, item, by, have)?;
@@ -83,11 +82,11 @@ impl Tables {
         wanted: &ExternDesc,
         have: &ExportedEntry<'_>,
     ) -> Result<Option<LinkReason>, AllocError>
-        requires { AreKnown (components_in pair.now.linking) self.old }
+        requires { AreKnown pair.now.linking self.old }
         ensures fault { IfOk result (JudgesExtern (set_of_pair pair.now) pair.now.importer
             (extern_desc_of (wanted_types pair.now) (wanted_funcs pair.now) wanted.now)
             pair.now.provider (exported_def (had_types pair.now) (had_funcs pair.now) have.now)) }
-        ensures known { OnOk result (AreKnown (components_in pair.now.linking) self.new) }
+        ensures known { OnOk result (AreKnown pair.now.linking self.new) }
     {
         match wanted {
             ExternDesc::Func(ty) => match have {

@@ -8,9 +8,10 @@ ghost use Rattle.cm_types_arena.specs.Instances.{numbered};
 ghost use Rattle.cm_types_arena.specs.Placed.{placed_func};
 ghost use Rattle.cm_validate_model.specs.Definitions.{func_type_of};
 ghost use Rattle.cm_match_model.specs.declared.fault.LinkReason.TheVariants as reason;
+ghost use Rattle.cm_match_model.specs.Imports.{LinkSet};
 ghost use Rattle.cm_match_model.specs.Serving.{standing};
 ghost use Rattle.cm_validate_entries.specs.Entries.{func_def, member_def};
-ghost use Rattle.cm_validate_model.specs.Spaces.{Spaces, item_of_member};
+ghost use Rattle.cm_validate_model.specs.Spaces.{item_of_member};
 ghost use Rattle.cm_match_serving.specs.Answers.{Judges, JudgesItem};
 ghost use Rattle.cm_match_serving.specs.Sides.{set_of_pair};
 
@@ -87,7 +88,7 @@ fn known_item(pair: &Pair<'_, '_>, wanted: ResourceId, have: MemberEntry<'_>) ->
 
 /// What serves a resource that an import brings: any resource.
 fn fresh_item(have: MemberEntry<'_>) -> Option<LinkReason>
-    ensures { (set : List Spaces) (importer provider : ℕ) (wanted : Resource) (types : List Ty)
+    ensures { (set : LinkSet) (importer provider : ℕ) (wanted : Resource) (types : List Ty)
         (funcs : List FuncTy) → JudgesItem set importer (fresh_resource wanted) provider
         (item_of_member (member_def types funcs have.entry)) result }
 {
@@ -102,7 +103,6 @@ impl Tables {
     ghost use Rattle.std.specs.Prelude.{IfOk, OnOk};
     ghost use Rattle.cm_types.specs.Signatures.{equal_type, func_item};
     ghost use Rattle.cm_match_model.specs.Serving.{IsSameFunc};
-    ghost use Rattle.cm_match_serving.specs.Linkings.{components_in};
     ghost use Rattle.cm_match_serving.specs.Answers.{wanted_desc};
     ghost use Rattle.cm_match_serving.specs.Sides.{had_funcs, had_types, wanted_funcs};
     ghost use Rattle.cm_match_serving.specs.Sides.{wanted_types};
@@ -116,12 +116,12 @@ impl Tables {
         wanted: Brought,
         have: FuncEntry<'_>,
     ) -> Result<Option<LinkReason>, AllocError>
-        requires { AreKnown (components_in pair.now.linking) self.old }
+        requires { AreKnown pair.now.linking self.old }
         ensures fault { IfOk result (Judges (IsSameFunc (set_of_pair pair.now)
             pair.now.importer (func_brought (wanted_funcs pair.now) wanted)
             pair.now.provider (func_type_of (func_def (had_funcs pair.now) have.entry)))
             reason.DifferentType) }
-        ensures known { OnOk result (AreKnown (components_in pair.now.linking) self.new) }
+        ensures known { OnOk result (AreKnown pair.now.linking self.new) }
     {
         let have = Brought {
             ty: func_type(have),
@@ -139,12 +139,12 @@ impl Tables {
         wanted: Brought,
         have: MemberEntry<'_>,
     ) -> Result<Option<LinkReason>, AllocError>
-        requires { AreKnown (components_in pair.now.linking) self.old }
+        requires { AreKnown pair.now.linking self.old }
         ensures fault { IfOk result (JudgesItem (set_of_pair pair.now)
             pair.now.importer (func_item (func_brought (wanted_funcs pair.now) wanted))
             pair.now.provider
             (item_of_member (member_def (had_types pair.now) (had_funcs pair.now) have.entry))) }
-        ensures known { OnOk result (AreKnown (components_in pair.now.linking) self.new) }
+        ensures known { OnOk result (AreKnown pair.now.linking self.new) }
     {
         match have {
             MemberEntry::Func(func) => self.func_fault(alloc, pair, wanted, func),
@@ -161,12 +161,12 @@ impl Tables {
         wanted: Brought,
         have: MemberEntry<'_>,
     ) -> Result<Option<LinkReason>, AllocError>
-        requires { AreKnown (components_in pair.now.linking) self.old }
+        requires { AreKnown pair.now.linking self.old }
         ensures fault { IfOk result (JudgesItem (set_of_pair pair.now)
             pair.now.importer (equal_type (type_brought (wanted_types pair.now) wanted))
             pair.now.provider
             (item_of_member (member_def (had_types pair.now) (had_funcs pair.now) have.entry))) }
-        ensures known { OnOk result (AreKnown (components_in pair.now.linking) self.new) }
+        ensures known { OnOk result (AreKnown pair.now.linking self.new) }
     {
         match have {
             MemberEntry::Value(ty) => {
@@ -189,13 +189,13 @@ impl Tables {
         by: Option<Move>,
         have: MemberEntry<'_>,
     ) -> Result<Option<LinkReason>, AllocError>
-        requires { AreKnown (components_in pair.now.linking) self.old }
+        requires { AreKnown pair.now.linking self.old }
         ensures fault { IfOk result (JudgesItem (set_of_pair pair.now)
             pair.now.importer
             (wanted_desc (wanted_types pair.now) (wanted_funcs pair.now) by wanted)
             pair.now.provider
             (item_of_member (member_def (had_types pair.now) (had_funcs pair.now) have.entry))) }
-        ensures known { OnOk result (AreKnown (components_in pair.now.linking) self.new) }
+        ensures known { OnOk result (AreKnown pair.now.linking self.new) }
     {
         replacing();
         match wanted {

@@ -3,6 +3,7 @@
 //! Types are compared once each resource is replaced by what it is in the end.
 #![tactic(auto)]
 
+mod chosen;
 mod components;
 mod exports;
 mod greatest;
@@ -24,6 +25,6 @@ pub use cm_validate_spaces::{
     MemberEntry,
 };
 pub use exports::Exports;
-pub use import_candidates::choices;
+pub use import_candidates::candidates_of;
 pub use linking::Linking;
 pub use tables::Tables;

@@ -2,20 +2,22 @@
 
 ghost use Rattle.std.specs.Prelude.{◌≡◌, ◌≤◌, length};
 ghost use Rattle.cm_match_model.specs.declared.plan.TheConstants.{MAX_COMPONENTS};
-ghost use Rattle.cm_match_serving.specs.Choices.{AreChoices};
-ghost use Rattle.cm_match_serving.specs.Sets.{set_of};
+ghost use Rattle.cm_match_serving.specs.Candidates.{AreCandidates};
+ghost use Rattle.cm_match_serving.specs.Sets.{set_by};
 
 use cm_match_model::laws::links_lead_earlier;
-use cm_match_model::{Candidate, Link};
+use cm_match_model::{Candidate, Choices, Link};
 use cm_types_arena::{Extern, ExternDesc};
 use cm_validate_spaces::{Checked, ExportEntry, ExportedEntry, MemberEntry};
 
-/// The components of a set, at most `MAX_COMPONENTS`, with the candidates of each import.
+/// The components of a set, at most `MAX_COMPONENTS`, with what is chosen for their imports, and
+/// the candidates of each import.
 #[derive(Clone, Copy)]
 pub struct Linking<'s, 'a> {
     components: &'s [Checked<'a>],
-    choices: &'s [Vec<Candidate>],
-    ghost chosen: { AreChoices (set_of components.now) choices.now },
+    choices: &'s Choices,
+    candidates: &'s [Vec<Candidate>],
+    ghost found: { AreCandidates (set_by components.now choices.now) candidates.now },
     ghost few: { length components.now ≤ MAX_COMPONENTS },
 }
 
@@ -32,15 +34,21 @@ impl<'s, 'a> Linking<'s, 'a> {
     ghost use Rattle.cm_match_serving.specs.Linkings.{components_in, set_in};
     ghost use Rattle.cm_match_serving.specs.Sets.{funcs_at, types_at};
 
-    /// These components, with the candidates of their imports.
-    pub fn new(components: &'s [Checked<'a>], choices: &'s [Vec<Candidate>]) -> Linking<'s, 'a>
-        requires chosen { AreChoices (set_of components.now) choices.now }
+    /// These components, with what is chosen for their imports, and the candidates of those.
+    pub fn new(
+        components: &'s [Checked<'a>],
+        choices: &'s Choices,
+        candidates: &'s [Vec<Candidate>],
+    ) -> Linking<'s, 'a>
+        requires found { AreCandidates (set_by components.now choices.now) candidates.now }
         requires few { length components.now ≤ MAX_COMPONENTS }
-        ensures { components_in result ≡ components.now }
+        ensures components { components_in result ≡ components.now }
+        ensures set { set_in result ≡ set_by components.now choices.now }
     {
         Linking {
             components,
             choices,
+            candidates,
         }
     }
 
@@ -53,11 +61,12 @@ impl<'s, 'a> Linking<'s, 'a> {
     }
 
     /// The candidates of the import of a number of a component, if there is one.
-    pub fn choice(&self, component: usize, import: usize) -> Option<Candidate>
-        ensures { result ≡ option_map (λ i. only (candidates (set_in self.now) component i))
-            (import_in (set_in self.now) component import) }
+    pub fn candidate(&self, component: usize, import: usize) -> Option<Candidate>
+        ensures { result
+            ≡ option_map (λ x. only (candidates (set_in self.now) component import x))
+            (import_in (set_in self.now).spaces component import) }
     {
-        self.choices.get(component)?.get(import).copied()
+        self.candidates.get(component)?.get(import).copied()
     }
 
     /// The export that an import is linked to by its name: its only candidate.
@@ -65,7 +74,7 @@ impl<'s, 'a> Linking<'s, 'a> {
         ensures { result ≡ links_of (set_in self.now) component import }
     {
         links_lead_earlier();
-        match self.choice(component as usize, import)? {
+        match self.candidate(component as usize, import)? {
             Candidate::One { component, export } => Some(Link {
                 component: component as u32,
                 export,
@@ -79,7 +88,7 @@ impl<'s, 'a> Linking<'s, 'a> {
     pub fn import(&self, component: usize, import: usize) -> Option<&'s Extern>
         ensures { option_map (λ i. extern_of (types_at (components_in self.now) component)
             (funcs_at (components_in self.now) component) i.now) result
-            ≡ import_in (set_in self.now) component import }
+            ≡ import_in (set_in self.now).spaces component import }
     {
         self.components.get(component)?.imports().get(import)
     }
@@ -88,7 +97,7 @@ impl<'s, 'a> Linking<'s, 'a> {
     pub fn export(&self, component: usize, export: usize) -> Option<&'s ExportEntry<'a>>
         ensures { option_map (λ e. (export_def (types_at (components_in self.now) component)
             (funcs_at (components_in self.now) component) e.now).def) result
-            ≡ export_in (set_in self.now) component export }
+            ≡ export_in (set_in self.now).spaces component export }
     {
         self.components.get(component)?.exports().get(export)
     }
@@ -96,7 +105,7 @@ impl<'s, 'a> Linking<'s, 'a> {
     /// The name of an item of an import, if the import is an instance and has that item.
     pub fn item_name(&self, component: usize, import: usize, item: usize) -> Option<&'s str>
         ensures { option_map (λ n. n.now) result ≡ option_and_then (λ s. item_name s import item)
-            (slice_get (set_in self.now) component) }
+            (slice_get (set_in self.now).spaces component) }
     {
         match &self.import(component, import)?.desc {
             ExternDesc::Func(_) => None,
@@ -109,7 +118,7 @@ impl<'s, 'a> Linking<'s, 'a> {
         ensures { option_map (member_def (types_at (components_in self.now) component)
             (funcs_at (components_in self.now) component)) result
             ≡ option_and_then (λ e. member_named (members_of e) name.now)
-            (export_in (set_in self.now) component export) }
+            (export_in (set_in self.now).spaces component export) }
     {
         match &self.export(component, export)?.def {
             ExportedEntry::Func(_) => None,

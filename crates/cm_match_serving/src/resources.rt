@@ -61,7 +61,8 @@ impl<'s, 'a> Linking<'s, 'a> {
     /// has under its name; None where there is no such resource. At most 15 links are followed, and
     /// no memory is taken.
     pub fn origin(&self, resource: ResourceId) -> Option<ResourceId>
-        ensures { result ≡ origin_of (set_in self.now) (links_of (set_in self.now)) resource }
+        ensures { result ≡ origin_of (set_in self.now).spaces (links_of (set_in self.now))
+            resource }
     {
         links_lead_earlier();
         origins_are_unique();

@@ -35,7 +35,7 @@ fn unknown(alloc: Global, count: usize) -> Result<Vec<KnownPlaced>, AllocError>
 }
 
 impl Tables {
-    ghost use Rattle.cm_match_serving.specs.cm_validate_spaces.declared.checked.Checked.{Checked};
+    ghost use Rattle.cm_match_serving.specs.declared.linking.Linking.{Linking};
     ghost use Rattle.cm_match_serving.specs.Sides.{funcs_in, had_funcs, had_types, set_of_pair};
     ghost use Rattle.cm_match_serving.specs.Sides.{standing_of, types_in, wanted_funcs};
     ghost use Rattle.cm_match_serving.specs.Sides.{wanted_types};
@@ -43,7 +43,8 @@ impl Tables {
 
     /// Tables for a set of so many components. `AllocError` comes where there is no memory.
     pub fn new(alloc: Global, count: usize) -> Result<Tables, AllocError>
-        ensures { IfOk result (λ t. (cs : List Checked) → length cs ≡ count → AreKnown cs t) }
+        ensures { IfOk result (λ t. (l : Linking) → length (components_in l) ≡ count
+            → AreKnown l t) }
     {
         Ok(Tables {
             numbers: Numbers::new(alloc),
@@ -58,10 +59,10 @@ impl Tables {
         side: &Side<'_, '_>,
         ty: Brought,
     ) -> Result<usize, AllocError>
-        requires { AreKnown (components_in side.now.linking) self.old }
+        requires { AreKnown side.now.linking self.old }
         ensures number { IfOk result (λ n. number (numbering self.new.numbers)
             (replaced (standing_of side.now) (type_brought (types_in side.now) ty)) ≡ Some n) }
-        ensures known { AreKnown (components_in side.now.linking) self.new }
+        ensures known { AreKnown side.now.linking self.new }
         ensures kept { Extends (numbering self.old.numbers) (numbering self.new.numbers) }
     {
         known_stays();
@@ -79,11 +80,11 @@ impl Tables {
         side: &Side<'_, '_>,
         func: Brought,
     ) -> Result<usize, AllocError>
-        requires { AreKnown (components_in side.now.linking) self.old }
+        requires { AreKnown side.now.linking self.old }
         ensures number { IfOk result (λ n. number_func (numbering self.new.numbers)
             (replaced_func (standing_of side.now) (func_brought (funcs_in side.now) func))
             ≡ Some n) }
-        ensures known { AreKnown (components_in side.now.linking) self.new }
+        ensures known { AreKnown side.now.linking self.new }
         ensures kept { Extends (numbering self.old.numbers) (numbering self.new.numbers) }
     {
         known_stays();
@@ -102,11 +103,11 @@ impl Tables {
         wanted: Brought,
         have: Brought,
     ) -> Result<bool, AllocError>
-        requires { AreKnown (components_in pair.now.linking) self.old }
+        requires { AreKnown pair.now.linking self.old }
         ensures same { IfOk result (λ same. IsTrue same ↔ IsSameType (set_of_pair pair.now)
             pair.now.importer (type_brought (wanted_types pair.now) wanted)
             pair.now.provider (type_brought (had_types pair.now) have)) }
-        ensures known { OnOk result (AreKnown (components_in pair.now.linking) self.new) }
+        ensures known { OnOk result (AreKnown pair.now.linking self.new) }
     {
         numbers_stay();
         let left = self.number_type(alloc, &pair.importer(), wanted)?;
@@ -123,11 +124,11 @@ impl Tables {
         wanted: Brought,
         have: Brought,
     ) -> Result<bool, AllocError>
-        requires { AreKnown (components_in pair.now.linking) self.old }
+        requires { AreKnown pair.now.linking self.old }
         ensures same { IfOk result (λ same. IsTrue same ↔ IsSameFunc (set_of_pair pair.now)
             pair.now.importer (func_brought (wanted_funcs pair.now) wanted)
             pair.now.provider (func_brought (had_funcs pair.now) have)) }
-        ensures known { OnOk result (AreKnown (components_in pair.now.linking) self.new) }
+        ensures known { OnOk result (AreKnown pair.now.linking self.new) }
     {
         numbers_stay();
         let left = self.number_func(alloc, &pair.importer(), wanted)?;

@@ -37,14 +37,14 @@ count_of : (o : Option Checked) → option_map_or (λ (s : Spaces). length s.exp
 count_of None = refl
 count_of (Some c) = refl
 
-pub exports_at : (cs : List Checked) (k : ℕ) → export_count (checked_set cs) k ≡ option_map_or (λ (c : Checked). length (spaces_of (sections_in c)).exports) (slice_get cs k) 0
+pub exports_at : (cs : List Checked) (k : ℕ) → export_count (checked_set cs).spaces k ≡ option_map_or (λ (c : Checked). length (spaces_of (sections_in c)).exports) (slice_get cs k) 0
 exports_at cs k =
     ap (λ o. option_map_or (λ (s : Spaces). length s.exports) o 0)
     (slice_get-map spaces_of (sections_of cs) k ∙ ap (option_map spaces_of) (slice_get-map sections_in cs k))
     ∙ count_of (slice_get cs k)
 
-pub count_some : (cs : List Checked) (k : ℕ) (c : Checked) → slice_get cs k ≡ Some c → export_count (checked_set cs) k ≡ length (spaces_of (sections_in c)).exports
+pub count_some : (cs : List Checked) (k : ℕ) (c : Checked) → slice_get cs k ≡ Some c → export_count (checked_set cs).spaces k ≡ length (spaces_of (sections_in c)).exports
 count_some cs k c at = exports_at cs k ∙ ap (λ o. option_map_or (λ (x : Checked). length (spaces_of (sections_in x)).exports) o 0) at
 
-pub count_none : (cs : List Checked) (k : ℕ) → slice_get cs k ≡ None → export_count (checked_set cs) k ≡ 0
+pub count_none : (cs : List Checked) (k : ℕ) → slice_get cs k ≡ None → export_count (checked_set cs).spaces k ≡ 0
 count_none cs k at = exports_at cs k ∙ ap (λ o. option_map_or (λ (x : Checked). length (spaces_of (sections_in x)).exports) o 0) at

@@ -4,12 +4,13 @@ use Rattle.std.specs.Option.{option_map_or}
 use Rattle.cm_binary_model.specs.Trees.{SectionTree}
 use Rattle.cm_validate_model.specs.Spaces.{Spaces, spaces_of}
 use Rattle.cm_validate_model.specs.Valid.{IsValid}
+use Rattle.cm_match_model.specs.Imports.{LinkSet, seen_by, sees_all}
 use Rattle.cm_match_model.specs.Links.{CanBeLinked, plan_of}
 use Rattle.cm_stubs.specs.Used.{AreUsed}
 
--- the index spaces of components
-abbrev pub set_of : List (List SectionTree) → List Spaces
-set_of components = map spaces_of components
+-- components whose imports see all exports before them
+abbrev pub set_of : List (List SectionTree) → LinkSet
+set_of components = seen_by sees_all (map spaces_of components)
 
 -- how many exports a component of a set has
 abbrev pub export_count : List Spaces → ℕ → ℕ
@@ -26,9 +27,9 @@ pub record IsCaller (stub : List SectionTree) : Type 0 where
   pub exports : (spaces_of stub).exports ≡ []
 
 -- components can be linked, and each export of this one serves an import
-pub record LinksWith (set : List Spaces) (component : ℕ) : Type 0 where
+pub record LinksWith (set : LinkSet) (component : ℕ) : Type 0 where
   pub linked : CanBeLinked set
-  pub used : AreUsed (plan_of set) component (export_count set component)
+  pub used : AreUsed (plan_of set) component (export_count set.spaces component)
 
 -- behind the stub the components can be linked, and each export of the stub serves an import
 abbrev pub LinksUnder : List SectionTree → List (List SectionTree) → Type 0

@@ -92,7 +92,7 @@ pub(crate) fn is_caller(alloc: Global, stub: &Component) -> Result<(), StubFault
 
 /// How many exports a component of a linked set has.
 fn export_count(linked: &Linked<'_>, component: usize) -> usize
-    ensures { result ≡ export_count (set_in linked.now) component }
+    ensures { result ≡ export_count (set_in linked.now).spaces component }
 {
     match linked.components().get(component) {
         Some(checked) => checked.exports().len(),

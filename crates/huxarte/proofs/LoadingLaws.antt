@@ -6,7 +6,7 @@ use Rattle.std.proofs.lemmas.Option.{slice_get-get_or, slice_get-map}
 use Rattle.std.specs.List.{AllByRecursion}
 use Rattle.cm_binary_model.specs.Trees.{SectionTree}
 use Rattle.cm_binary_forms.specs.File.{Spells}
-use Rattle.cm_validate_model.specs.Spaces.{Spaces}
+use Rattle.cm_match_model.specs.Imports.{LinkSet}
 use Rattle.cm_machine_model.specs.declared.event.Misuse.{Misuse}
 use Rattle.cm_machine_model.specs.declared.event.Misuse.TheVariants as misuse
 use Rattle.cm_machine_model.specs.State.{are_page_counts}
@@ -33,11 +33,11 @@ all_next P (y ∷ xs) zero x at all is = (subst P (sym (some_is y x at)) is, tt)
 all_next P (y ∷ xs) (suc i) x at all is = (all.0, all_next P xs i x at all.1 is)
 
 -- why a set is not made, by what making it says
-pub misuse_of : (set : List Spaces) (pages : List ℕ) (m : Misuse)
+pub misuse_of : (made set : LinkSet) (pages : List ℕ) (m : Misuse) → made ≡ set
     → (m ≡ misuse.BadPages) ⊎ (m ≡ misuse.Memory)
-    → (m ≡ misuse.BadPages → are_page_counts (length set) pages ≡ false)
+    → (m ≡ misuse.BadPages → are_page_counts (length made.spaces) pages ≡ false)
     → IsMisuse set pages m
-misuse_of set pages m only bad = elim only [
-  | inl is ↦ subst (IsMisuse set pages) (sym is) (bad is)
-  | inr is ↦ subst (IsMisuse set pages) (sym is) tt
-]
+misuse_of made set pages m same only bad = subst (λ s. IsMisuse s pages m) same (elim only [
+  | inl is ↦ subst (IsMisuse made pages) (sym is) (bad is)
+  | inr is ↦ subst (IsMisuse made pages) (sym is) tt
+])

@@ -9,11 +9,12 @@ use Rattle.cm_binary_forms.specs.declared.fault.DecodeReason.TheVariants as deco
 use Rattle.cm_binary_forms.specs.File.{FirstFault, Spells}
 use Rattle.cm_validate_model.specs.declared.fault.ValidFault.{ValidFault}
 use Rattle.cm_validate_model.specs.declared.fault.ValidReason.TheVariants as valid_reason
-use Rattle.cm_validate_model.specs.Spaces.{Spaces, spaces_of}
+use Rattle.cm_validate_model.specs.Spaces.{spaces_of}
 use Rattle.cm_validate_model.specs.Valid.{IsFaultOf, IsValid}
 use Rattle.cm_validate_functions.specs.cm_validate_spaces.Walks.{IsFineBefore}
 use Rattle.cm_match_model.specs.declared.fault.LinkFault.{LinkFault}
 use Rattle.cm_match_model.specs.declared.fault.LinkReason.TheVariants as link_reason
+use Rattle.cm_match_model.specs.Imports.{LinkSet, seen_by, sees_all}
 use Rattle.cm_match_model.specs.Links.{CanBeLinked, IsLinkFault}
 use Rattle.cm_match.specs.Before.{AreServedBefore}
 use Rattle.cm_machine_model.specs.declared.event.Misuse.{Misuse}
@@ -30,9 +31,9 @@ AreSpelled [] (c ∷ cs) = ⊥
 AreSpelled (f ∷ fs) [] = ⊥
 AreSpelled (f ∷ fs) (c ∷ cs) = Spells c f × AreSpelled fs cs
 
--- the index spaces of components
-abbrev pub set_of : List (List SectionTree) → List Spaces
-set_of components = map spaces_of components
+-- components whose imports see all exports before them
+abbrev pub set_of : List (List SectionTree) → LinkSet
+set_of components = seen_by sees_all (map spaces_of components)
 
 -- files spell components, each of which is valid, and which can be linked
 pub record AreSet (files : List (List ℕ)) (components : List (List SectionTree)) : Type 0 where
@@ -72,8 +73,8 @@ pub record IsLinkingFault (files : List (List ℕ)) (f : LinkFault) : Type 0 whe
 
 -- why the machine makes no set of components: the numbers of pages do not fit them, or there is no
 -- memory
-abbrev pub IsMisuse : List Spaces → List ℕ → Misuse → Type 0
-IsMisuse set pages misuse.BadPages = are_page_counts (length set) pages ≡ false
+abbrev pub IsMisuse : LinkSet → List ℕ → Misuse → Type 0
+IsMisuse set pages misuse.BadPages = are_page_counts (length set.spaces) pages ≡ false
 IsMisuse set pages misuse.Memory = ⊤
 IsMisuse set pages m = ⊥
 

@@ -8,15 +8,15 @@ use Rattle.cm_match_model.specs.Links.{CanBeLinked, IsLinkFault}
 use Rattle.cm_match.specs.Before.{AreServedBefore}
 use Rattle.cm_machine_model.specs.declared.event.Misuse.{Misuse}
 use Rattle.cm_machine.specs.cm_machine_set.Running.{IsNew, RunningSet}
-use Rattle.cm_validate_model.specs.Spaces.{Spaces}
+use Rattle.cm_match_model.specs.Imports.{LinkSet}
 use Rattle.cm_shims.specs.Files.{AreRead, IsFileFault, IsSound, Reading, component_in}
 use Rattle.huxarte.specs.declared.real_fault.RealFault.{RealFault}
 use Rattle.huxarte.specs.declared.real_fault.RealFault.TheVariants as fault
 use Rattle.huxarte.specs.Loading.{IsMisuse, set_of}
 
--- the index spaces of the plain components that files are read as
-abbrev pub spaces_read : List Reading → List Spaces
-spaces_read readings = set_of (map component_in readings)
+-- the plain components that files are read as, whose imports see all exports before them
+abbrev pub set_read : List Reading → LinkSet
+set_read readings = set_of (map component_in readings)
 
 -- files are read as plain components, each of which is valid and has the types that its shims say
 pub record AreSound (files : List (List ℕ)) (readings : List Reading) : Type 0 where
@@ -29,15 +29,15 @@ pub record IsRealLinkFault (files : List (List ℕ)) (f : LinkFault) : Type 0 wh
   pub readings : List Reading
   pub are : AreSound files readings
   pub fails : ((f.reason ≡ link_reason.Memory)
-      × AreServedBefore (spaces_read readings) f.component f.import)
-      ⊎ IsLinkFault (spaces_read readings) f.component f.import f.reason
+      × AreServedBefore (set_read readings) f.component f.import)
+      ⊎ IsLinkFault (set_read readings) f.component f.import f.reason
 
 -- the components are linked, and the machine makes no set of them
 pub record IsRealSetFault (files : List (List ℕ)) (pages : List ℕ) (m : Misuse) : Type 0 where
   pub readings : List Reading
   pub are : AreSound files readings
-  pub linked : CanBeLinked (spaces_read readings)
-  pub fails : IsMisuse (spaces_read readings) pages m
+  pub linked : CanBeLinked (set_read readings)
+  pub fails : IsMisuse (set_read readings) pages m
 
 -- why files of real tools do not come to a set with these pages; the first step that fails tells
 abbrev pub IsRealFault : List (List ℕ) → List ℕ → RealFault → Type 0
@@ -50,5 +50,5 @@ IsRealFault files pages (fault.Set m) = IsRealSetFault files pages m
 pub record IsRealLoaded (files : List (List ℕ)) (pages : List ℕ) (s : RunningSet) : Type 0 where
   pub readings : List Reading
   pub are : AreSound files readings
-  pub linked : CanBeLinked (spaces_read readings)
-  pub new_set : IsNew (spaces_read readings) pages s
+  pub linked : CanBeLinked (set_read readings)
+  pub new_set : IsNew (set_read readings) pages s

@@ -53,7 +53,10 @@ pub mod shims {
 /// Valid components and linked sets: what is imported and exported, and which export serves which
 /// import.
 pub mod components {
-    pub use cm_match::{LinkFault, LinkReason, Linked, MAX_COMPONENTS, PlanLine, Target, link};
+    pub use cm_match::{
+        Choices, Link, LinkFault, LinkReason, Linked, MAX_COMPONENTS, Place, PlanLine, Target,
+        link, link_by,
+    };
     pub use cm_types::{ExternName, ExternNameForm, Label, NameFault, ResourceId, same_name};
     pub use cm_types_arena::{ItemDesc, Placed};
     pub use cm_validate::{

@@ -3,23 +3,23 @@ use Rattle.std.proofs.Common.{◌≡◌, ◌≤◌, ◌+◌, List, ℕ, true, fa
 use Rattle.std.specs.List.{AllByRecursion}
 use Rattle.cm_match_model.specs.Links.{CanBeLinked}
 use Rattle.cm_shims.specs.Files.{AreRead, IsSound, Reading}
-use Rattle.cm_validate_model.specs.Spaces.{Spaces}
+use Rattle.cm_match_model.specs.Imports.{LinkSet}
 use Rattle.huxarte_c.specs.declared.playing.PlayRefusal.{PlayRefusal}
 use Rattle.huxarte_c.specs.declared.playing.PlayRefusal.TheVariants as refusal
 use Rattle.huxarte_c.specs.Playing.{IsPlayOutcome, IsSpansRefusal, IsUnplayed, IsUnplayedOf}
 use Rattle.huxarte_c_components.proofs.LinkLaws.{part_refused, stop_is}
-use Rattle.huxarte_c_components.specs.Linking.{AreLinked, spaces_read}
+use Rattle.huxarte_c_components.specs.Linking.{AreLinked, set_read}
 use Rattle.huxarte_c_components.specs.declared.linking.LinkRefusal.TheVariants as link
 use Rattle.huxarte_c_calls.specs.declared.spans.HuxSpan.{HuxSpan}
 use Rattle.huxarte_c_calls.specs.Spans.{AreWithin, parts_of}
 
-linked : (files : List (List ℕ)) (rs : List Reading) (set : List Spaces)
-    → AreRead files rs → AllByRecursion IsSound rs → set ≡ spaces_read rs → CanBeLinked set → AreLinked files
+linked : (files : List (List ℕ)) (rs : List Reading) (set : LinkSet)
+    → AreRead files rs → AllByRecursion IsSound rs → set ≡ set_read rs → CanBeLinked set → AreLinked files
 linked files rs set read sound is can = (rs, record { are = record { read = read; sound = sound }; linked = subst CanBeLinked is can })
 
 -- what holds of index spaces holds of the files that stand for them
-pub unplayed_is : {A : Type 0} (files : List (List ℕ)) (rs : List Reading) (set : List Spaces) (r : Result A PlayRefusal)
-    → AreRead files rs → AllByRecursion IsSound rs → set ≡ spaces_read rs → IfErr r (IsUnplayed set) → IfErr r (IsUnplayedOf files)
+pub unplayed_is : {A : Type 0} (files : List (List ℕ)) (rs : List Reading) (set : LinkSet) (r : Result A PlayRefusal)
+    → AreRead files rs → AllByRecursion IsSound rs → set ≡ set_read rs → IfErr r (IsUnplayed set) → IfErr r (IsUnplayedOf files)
 unplayed_is files rs set (Ok v) read sound is why = tt
 unplayed_is files rs set (Err (refusal.Link e)) read sound is why = stop_is files rs set e read sound is why
 unplayed_is files rs set (Err refusal.Unplayed) read sound is why = linked files rs set read sound is why

@@ -15,11 +15,11 @@ use Rattle.cm_machine_set.specs.Running.{SetSteps}
 use Rattle.cm_types.specs.declared.core_value.CoreValue.{CoreValue}
 use Rattle.cm_match_model.specs.Links.{CanBeLinked}
 use Rattle.cm_shims.specs.Files.{AreRead, IsSound, Reading}
-use Rattle.cm_validate_model.specs.Spaces.{Spaces}
+use Rattle.cm_match_model.specs.Imports.{LinkSet}
 use Rattle.huxarte_c_calls.specs.declared.spans.HuxSpan.{HuxSpan}
 use Rattle.huxarte_c_calls.specs.Spans.{AreWithin, parts_of}
 use Rattle.huxarte_c_components.proofs.LinkLaws.{part_refused, stop_is}
-use Rattle.huxarte_c_components.specs.Linking.{CanLink, spaces_read}
+use Rattle.huxarte_c_components.specs.Linking.{CanLink, set_read}
 use Rattle.huxarte_c.specs.Cores.{AreKinds, IsCoresFault, value_of}
 use Rattle.huxarte_c.specs.Kept.{IsDone, IsNoCoreMove, IsNoListMove, IsNoMove, IsNoMoveBy, KeptSteps, Moves}
 use Rattle.huxarte_c.specs.PlayedSets.{IsNewPlayed, IsWritten, PlayedSet}
@@ -118,22 +118,22 @@ cores_why cores old (refusal.NoHandle f) why = absurd why
 
 -- ---- sets of files
 
-can_link : (files : List (List ℕ)) (rs : List Reading) (set : List Spaces)
-    → AreRead files rs → AllByRecursion IsSound rs → set ≡ spaces_read rs → CanBeLinked set → CanLink files rs
+can_link : (files : List (List ℕ)) (rs : List Reading) (set : LinkSet)
+    → AreRead files rs → AllByRecursion IsSound rs → set ≡ set_read rs → CanBeLinked set → CanLink files rs
 can_link files rs set read sound is can = record { are = record { read = read; sound = sound }; linked = subst CanBeLinked is can }
 
-pub made_is : {A : Type 0} (value : A → PlayedSet) (files : List (List ℕ)) (rs : List Reading) (set : List Spaces) (pages : List ℕ) (r : Result A SetRefusal)
-    → AreRead files rs → AllByRecursion IsSound rs → set ≡ spaces_read rs → IfOk r (λ b. IsSetLinked set pages (value b)) → IfOk r (λ b. IsSetOf files pages (value b))
+pub made_is : {A : Type 0} (value : A → PlayedSet) (files : List (List ℕ)) (rs : List Reading) (set : LinkSet) (pages : List ℕ) (r : Result A SetRefusal)
+    → AreRead files rs → AllByRecursion IsSound rs → set ≡ set_read rs → IfOk r (λ b. IsSetLinked set pages (value b)) → IfOk r (λ b. IsSetOf files pages (value b))
 made_is value files rs set pages (Ok b) read sound is made =
-    (rs, can_link files rs set read sound is made.0, subst (λ (s : List Spaces). IsNewPlayed s pages (value b)) is made.1)
+    (rs, can_link files rs set read sound is made.0, subst (λ (s : LinkSet). IsNewPlayed s pages (value b)) is made.1)
 made_is value files rs set pages (Err e) read sound is made = tt
 
-pub unmade_is : {A : Type 0} (files : List (List ℕ)) (rs : List Reading) (set : List Spaces) (pages : List ℕ) (r : Result A SetRefusal)
-    → AreRead files rs → AllByRecursion IsSound rs → set ≡ spaces_read rs → IfErr r (IsUnmade set pages) → IfErr r (IsUnmadeOf files pages)
+pub unmade_is : {A : Type 0} (files : List (List ℕ)) (rs : List Reading) (set : LinkSet) (pages : List ℕ) (r : Result A SetRefusal)
+    → AreRead files rs → AllByRecursion IsSound rs → set ≡ set_read rs → IfErr r (IsUnmade set pages) → IfErr r (IsUnmadeOf files pages)
 unmade_is files rs set pages (Ok v) read sound is why = tt
 unmade_is files rs set pages (Err (refusal.Link e)) read sound is why = stop_is files rs set e read sound is why
 unmade_is files rs set pages (Err (refusal.Misuse m)) read sound is why =
-    (rs, can_link files rs set read sound is why.0, subst (λ (s : List Spaces). IsUnmadeBy s pages (refusal.Misuse m)) is why.1)
+    (rs, can_link files rs set read sound is why.0, subst (λ (s : LinkSet). IsUnmadeBy s pages (refusal.Misuse m)) is why.1)
 unmade_is files rs set pages (Err refusal.Memory) read sound is why = tt
 unmade_is files rs set pages (Err refusal.Empty) read sound is why = absurd why
 unmade_is files rs set pages (Err refusal.Full) read sound is why = absurd why

@@ -6,31 +6,31 @@ use Rattle.cm_machine_model.specs.declared.event.Misuse.{Misuse}
 use Rattle.cm_machine_model.specs.declared.event.Misuse.TheVariants as misuse
 use Rattle.cm_match_model.specs.Links.{CanBeLinked}
 use Rattle.cm_shims.specs.Files.{Reading}
-use Rattle.cm_validate_model.specs.Spaces.{Spaces}
+use Rattle.cm_match_model.specs.Imports.{LinkSet}
 use Rattle.huxarte_c_calls.specs.Spans.{AreWithin, parts_of}
 use Rattle.huxarte_c_calls.specs.Verdicts.{verdict_by}
 use Rattle.huxarte_c_calls.specs.declared.spans.HuxSpan.{HuxSpan}
 use Rattle.huxarte_c_calls.specs.declared.verdicts.HuxVerdict.{HuxVerdict}
 use Rattle.huxarte_c_components.specs.Linking.{CanLink, IsLinkRefusal, IsPartsRefusal, IsUnlinked}
-use Rattle.huxarte_c_components.specs.Linking.{spaces_read}
+use Rattle.huxarte_c_components.specs.Linking.{set_read}
 use Rattle.huxarte_c.specs.PlayedSets.{IsNewPlayed, PlayedSet}
 use Rattle.huxarte_c.specs.Refused.{of_set}
 use Rattle.huxarte_c.specs.declared.refusal.SetRefusal.{SetRefusal}
 use Rattle.huxarte_c.specs.declared.refusal.SetRefusal.TheVariants as refusal
 
--- a new set of components with these index spaces, which can be linked
-abbrev pub IsSetLinked : List Spaces → List ℕ → PlayedSet → Type 0
+-- a new set of these components, which can be linked
+abbrev pub IsSetLinked : LinkSet → List ℕ → PlayedSet → Type 0
 IsSetLinked set pages s = CanBeLinked set × IsNewPlayed set pages s
 
 -- why the machine makes no set of linked components
-abbrev pub IsUnmadeBy : List Spaces → List ℕ → SetRefusal → Type 0
+abbrev pub IsUnmadeBy : LinkSet → List ℕ → SetRefusal → Type 0
 IsUnmadeBy set pages (refusal.Misuse m) = ((m ≡ misuse.BadPages) ⊎ (m ≡ misuse.Memory))
-    × ((m ≡ misuse.BadPages) ↔ (are_page_counts (length set) pages ≡ false))
+    × ((m ≡ misuse.BadPages) ↔ (are_page_counts (length set.spaces) pages ≡ false))
 IsUnmadeBy set pages refusal.Memory = ⊤
 IsUnmadeBy set pages _ = ⊥
 
 -- why there is none of components: they can't be linked, or the machine makes none
-abbrev pub IsUnmade : List Spaces → List ℕ → SetRefusal → Type 0
+abbrev pub IsUnmade : LinkSet → List ℕ → SetRefusal → Type 0
 IsUnmade set pages (refusal.Link r) = IsUnlinked set r
 IsUnmade set pages (refusal.Misuse m) =
     CanBeLinked set × IsUnmadeBy set pages (refusal.Misuse m)
@@ -40,12 +40,12 @@ IsUnmade set pages _ = ⊥
 -- a new set of the components of files, which link
 abbrev pub IsSetOf : List (List ℕ) → List ℕ → PlayedSet → Type 0
 IsSetOf files pages s =
-    (readings : List Reading) × CanLink files readings × IsNewPlayed (spaces_read readings) pages s
+    (readings : List Reading) × CanLink files readings × IsNewPlayed (set_read readings) pages s
 
 -- the components of files link, and the machine makes no set of them
 abbrev pub IsUnmadeLinked : List (List ℕ) → List ℕ → SetRefusal → Type 0
 IsUnmadeLinked files pages r =
-    (readings : List Reading) × CanLink files readings × IsUnmadeBy (spaces_read readings) pages r
+    (readings : List Reading) × CanLink files readings × IsUnmadeBy (set_read readings) pages r
 
 abbrev pub IsUnmadeOf : List (List ℕ) → List ℕ → SetRefusal → Type 0
 IsUnmadeOf files pages (refusal.Link r) = IsLinkRefusal files r

@@ -6,7 +6,7 @@ use Rattle.cm_live.specs.declared.answer.Written.{Written}
 use Rattle.cm_machine_model.specs.declared.event.Event.{Event}
 use Rattle.cm_machine_model.specs.declared.moves.Move.{Move}
 use Rattle.cm_machine_set.specs.Running.{IsNew, RunningSet, begun}
-use Rattle.cm_validate_model.specs.Spaces.{Spaces}
+use Rattle.cm_match_model.specs.Imports.{LinkSet}
 
 -- a set that is played; and of which instance's memory regions were written before the latest event
 pub record PlayedSet : Type 0 where
@@ -15,7 +15,7 @@ pub record PlayedSet : Type 0 where
   pub regions : List Region
 
 -- a new set, before any event
-pub record IsNewPlayed (linked : List Spaces) (pages : List ℕ) (s : PlayedSet) : Type 0 where
+pub record IsNewPlayed (linked : LinkSet) (pages : List ℕ) (s : PlayedSet) : Type 0 where
   pub new : IsNew linked pages s.set
   pub nothing : s.regions ≡ []
 

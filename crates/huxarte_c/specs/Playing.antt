@@ -2,7 +2,7 @@
 -- is not said here.
 use Rattle.std.specs.Prelude.{◌≡◌, ⊤, ℕ, List, ◌∷◌, Result, Ok, Err}
 use Rattle.cm_match_model.specs.Links.{CanBeLinked}
-use Rattle.cm_validate_model.specs.Spaces.{Spaces}
+use Rattle.cm_match_model.specs.Imports.{LinkSet}
 use Rattle.huxarte_c.specs.declared.playing.PlayRefusal.{PlayRefusal}
 use Rattle.huxarte_c.specs.declared.playing.PlayRefusal.TheVariants as refusal
 use Rattle.huxarte_c_components.specs.Linking.{AreLinked, IsLinkRefusal, IsPartsRefusal, IsUnlinked}
@@ -27,8 +27,8 @@ abbrev pub IsDriveRefusal : PlayRefusal → Type 0
 IsDriveRefusal (refusal.Link r) = ⊥
 IsDriveRefusal _ = ⊤
 
--- components with these index spaces can't be linked, or are linked, and a play ends so
-abbrev pub IsUnplayed : List Spaces → PlayRefusal → Type 0
+-- components can't be linked, or are linked, and a play ends so
+abbrev pub IsUnplayed : LinkSet → PlayRefusal → Type 0
 IsUnplayed set (refusal.Link r) = IsUnlinked set r
 IsUnplayed set _ = CanBeLinked set
 

@@ -45,7 +45,7 @@ impl KeptSet {
     pub(crate) fn new(alloc: Global, linked: &Linked<'_>, pages: &[u32]) -> Result<KeptSet, Misuse>
         ensures new { IfOk result (IsNewPlayed (set_in linked.now) pages.now) }
         ensures bad_pages { IfErr result (λ m. (m ≡ Misuse.BadPages)
-            ↔ (are_page_counts (length (set_in linked.now)) pages.now ≡ false)) }
+            ↔ (are_page_counts (length (set_in linked.now).spaces) pages.now ≡ false)) }
         ensures only { IfErr result (λ m. (m ≡ Misuse.BadPages) ⊎ (m ≡ Misuse.Memory)) }
     {
         match Played::new(alloc, linked, pages) {

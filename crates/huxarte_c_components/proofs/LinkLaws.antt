@@ -3,29 +3,29 @@ use Rattle.std.proofs.Common.{◌≡◌, List, ℕ, subst, Result, Ok, Err, IfEr
 use Rattle.std.specs.List.{AllByRecursion}
 use Rattle.cm_match_model.specs.Links.{CanBeLinked}
 use Rattle.cm_shims.specs.Files.{AreRead, IsSound, Reading}
-use Rattle.cm_validate_model.specs.Spaces.{Spaces}
+use Rattle.cm_match_model.specs.Imports.{LinkSet}
 use Rattle.huxarte_c_components.specs.declared.linking.LinkRefusal.{LinkRefusal}
 use Rattle.huxarte_c_components.specs.declared.linking.LinkRefusal.TheVariants as refusal
-use Rattle.huxarte_c_components.specs.Linking.{AreLinked, IsLinkRefusal, IsPartsRefusal, IsUnlinked, spaces_read}
+use Rattle.huxarte_c_components.specs.Linking.{AreLinked, IsLinkRefusal, IsPartsRefusal, IsUnlinked, set_read}
 use Rattle.huxarte_c_calls.specs.declared.spans.HuxSpan.{HuxSpan}
 use Rattle.huxarte_c_calls.specs.Spans.{AreWithin, parts_of}
 
-pub linked_is : {A E : Type 0} (files : List (List ℕ)) (rs : List Reading) (set : List Spaces) (r : Result A E)
-    → AreRead files rs → AllByRecursion IsSound rs → set ≡ spaces_read rs → OnOk r (CanBeLinked set) → OnOk r (AreLinked files)
+pub linked_is : {A E : Type 0} (files : List (List ℕ)) (rs : List Reading) (set : LinkSet) (r : Result A E)
+    → AreRead files rs → AllByRecursion IsSound rs → set ≡ set_read rs → OnOk r (CanBeLinked set) → OnOk r (AreLinked files)
 linked_is files rs set (Ok v) read sound is can = (rs, record { are = record { read = read; sound = sound }; linked = subst CanBeLinked is can })
 linked_is files rs set (Err e) read sound is can = tt
 
 -- why components do not link is why their files do not
-pub stop_is : (files : List (List ℕ)) (rs : List Reading) (set : List Spaces) (e : LinkRefusal)
-    → AreRead files rs → AllByRecursion IsSound rs → set ≡ spaces_read rs → IsUnlinked set e → IsLinkRefusal files e
+pub stop_is : (files : List (List ℕ)) (rs : List Reading) (set : LinkSet) (e : LinkRefusal)
+    → AreRead files rs → AllByRecursion IsSound rs → set ≡ set_read rs → IsUnlinked set e → IsLinkRefusal files e
 stop_is files rs set refusal.Outside read sound is why = absurd why
 stop_is files rs set (refusal.Files f) read sound is why = absurd why
 stop_is files rs set (refusal.Link f) read sound is why =
-    record { readings = rs; are = record { read = read; sound = sound }; fails = subst (λ (s : List Spaces). IsUnlinked s (refusal.Link f)) is why }
+    record { readings = rs; are = record { read = read; sound = sound }; fails = subst (λ (s : LinkSet). IsUnlinked s (refusal.Link f)) is why }
 stop_is files rs set refusal.Memory read sound is why = tt
 
-pub unlinked_is : {A : Type 0} (files : List (List ℕ)) (rs : List Reading) (set : List Spaces) (r : Result A LinkRefusal)
-    → AreRead files rs → AllByRecursion IsSound rs → set ≡ spaces_read rs → IfErr r (IsUnlinked set) → IfErr r (IsLinkRefusal files)
+pub unlinked_is : {A : Type 0} (files : List (List ℕ)) (rs : List Reading) (set : LinkSet) (r : Result A LinkRefusal)
+    → AreRead files rs → AllByRecursion IsSound rs → set ≡ set_read rs → IfErr r (IsUnlinked set) → IfErr r (IsLinkRefusal files)
 unlinked_is files rs set (Ok v) read sound is why = tt
 unlinked_is files rs set (Err e) read sound is why = stop_is files rs set e read sound is why
 

@@ -2,10 +2,11 @@
 use Rattle.std.specs.Prelude.{◌≡◌, ◌⊎◌, ⊤, ℕ, List, Result, Ok, Err, map}
 use Rattle.std.specs.List.{AllByRecursion}
 use Rattle.cm_match.specs.Before.{AreServedBefore}
+use Rattle.cm_match_model.specs.Imports.{LinkSet, seen_by, sees_all}
 use Rattle.cm_match_model.specs.Links.{CanBeLinked, IsLinkFault}
 use Rattle.cm_match_model.specs.Reasons.{reason_number}
 use Rattle.cm_match_model.specs.declared.fault.LinkReason.TheVariants as link_reason
-use Rattle.cm_validate_model.specs.Spaces.{Spaces, spaces_of}
+use Rattle.cm_validate_model.specs.Spaces.{spaces_of}
 use Rattle.cm_shims.specs.Files.{AreRead, IsFileFault, IsSound, Reading, component_in}
 use Rattle.huxarte_c_components.specs.declared.linking.LinkRefusal.{LinkRefusal}
 use Rattle.huxarte_c_components.specs.declared.linking.LinkRefusal.TheVariants as refusal
@@ -28,21 +29,21 @@ pub record AreSound (files : List (List ℕ)) (readings : List Reading) : Type 0
   pub read : AreRead files readings
   pub sound : AllByRecursion IsSound readings
 
--- the index spaces of the plain components that files are read as
-abbrev pub spaces_read : List Reading → List Spaces
-spaces_read readings = map spaces_of (map component_in readings)
+-- the plain components that files are read as, whose imports see all exports before them
+abbrev pub set_read : List Reading → LinkSet
+set_read readings = seen_by sees_all (map spaces_of (map component_in readings))
 
 -- files stand for valid components, which can be linked
 pub record CanLink (files : List (List ℕ)) (readings : List Reading) : Type 0 where
   pub are : AreSound files readings
-  pub linked : CanBeLinked (spaces_read readings)
+  pub linked : CanBeLinked (set_read readings)
 
 abbrev pub AreLinked : List (List ℕ) → Type 0
 AreLinked files = (readings : List Reading) × CanLink files readings
 
--- Components with these index spaces can't be linked, and this is the first fault; or there was no
--- memory at an import before which all are served, or for the text of the plan.
-abbrev pub IsUnlinked : List Spaces → LinkRefusal → Type 0
+-- Components can't be linked, and this is the first fault; or there was no memory at an import
+-- before which all are served, or for the text of the plan.
+abbrev pub IsUnlinked : LinkSet → LinkRefusal → Type 0
 IsUnlinked set (refusal.Link f) =
     ((f.reason ≡ link_reason.Memory) × AreServedBefore set f.component f.import)
     ⊎ IsLinkFault set f.component f.import f.reason
@@ -54,7 +55,7 @@ IsUnlinked set (refusal.Files f) = ⊥
 pub record IsLinkStop (files : List (List ℕ)) (r : LinkRefusal) : Type 0 where
   pub readings : List Reading
   pub are : AreSound files readings
-  pub fails : IsUnlinked (spaces_read readings) r
+  pub fails : IsUnlinked (set_read readings) r
 
 -- why the components of files do not link; memory may be refused for the text of the plan
 abbrev pub IsLinkRefusal : List (List ℕ) → LinkRefusal → Type 0

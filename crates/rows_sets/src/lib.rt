@@ -2,6 +2,7 @@
 #![tactic(auto)]
 
 mod checks;
+mod chosen;
 mod components;
 mod events;
 mod faults;
@@ -52,6 +53,7 @@ impl Driver for SetRows {
             }
             "checked" => checks::answer(alloc, &self.files, rest, line),
             "link" => self.sets.link(alloc, &self.files, rest, line),
+            "by" => chosen::answer(alloc, &self.files, words, line),
             "set" => self.sets.answer(alloc, rest, line),
             "valid" => checks::valid_answer(alloc, &self.files, first, line),
             "faults" => faults::answer(first, line),

@@ -4,7 +4,7 @@
 use crate::checks::keep_invalid;
 use crate::components::read_components;
 use cm_binary::Component;
-use cm_match::{LinkFault, LinkReason, Linked, PlanLine, link};
+use cm_match::{Checked, LinkFault, LinkReason, Linked, PlanLine, link};
 use cm_rows::{Line, NamedFiles, word, words_from};
 use cm_validate_spaces::validate;
 use std::alloc::Global;
@@ -19,13 +19,13 @@ pub fn answer(alloc: Global, files: &NamedFiles, words: &[&str], line: &mut Line
     }
 }
 
-/// The set of these components, which are to be valid, or why they can't be linked. Where one is
-/// not valid, or there is no memory, the line keeps that.
-pub fn link_components<'a>(
+/// These components, which are to be valid. Where one is not, or there is no memory, the line keeps
+/// that.
+pub fn checked_components<'a>(
     alloc: Global,
     components: &'a [Component],
     line: &mut Line,
-) -> Result<Linked<'a>, LinkFault> {
+) -> Vec<Checked<'a>> {
     let mut checked = Vec::new(alloc);
     for component in components {
         match validate(alloc, component) {
@@ -33,11 +33,26 @@ pub fn link_components<'a>(
             Err(fault) => keep_invalid(line, &fault),
         }
     }
-    let linked = link(alloc, checked);
-    if let Err(fault) = &linked {
+    checked
+}
+
+/// The set of these components, which are to be valid, or why they can't be linked. Where one is
+/// not valid, or there is no memory, the line keeps that.
+pub fn link_components<'a>(
+    alloc: Global,
+    components: &'a [Component],
+    line: &mut Line,
+) -> Result<Linked<'a>, LinkFault> {
+    let linked = link(alloc, checked_components(alloc, components, line));
+    keep_if_memory(line, &linked);
+    linked
+}
+
+/// Keeps that there was no memory for linking.
+pub fn keep_if_memory(line: &mut Line, linked: &Result<Linked<'_>, LinkFault>) {
+    if let Err(fault) = linked {
         line.fail_if_memory(fault.reason == LinkReason::Memory);
     }
-    linked
 }
 
 /// The number of an item of an instance, or `-` for none.
@@ -60,10 +75,16 @@ pub fn write_link_fault(line: &mut Line, fault: LinkFault) {
 /// Writes the plan of the set, or its fault.
 fn write_plan_of(alloc: Global, files: &NamedFiles, sources: &[&str], line: &mut Line) {
     let components = read_components(alloc, files, sources, line);
-    match link_components(alloc, &components, line) {
+    let linked = link_components(alloc, &components, line);
+    write_linked(line, &linked);
+}
+
+/// Writes the plan of a set, or its fault.
+pub fn write_linked(line: &mut Line, linked: &Result<Linked<'_>, LinkFault>) {
+    match linked {
         Ok(linked) if linked.plan().is_empty() => line.put("nothing"),
         Ok(linked) => write_plan(line, linked.plan()),
-        Err(fault) => write_link_fault(line, fault),
+        Err(fault) => write_link_fault(line, *fault),
     }
 }
 

@@ -15,8 +15,8 @@ pub(crate) const ROWS: &str = "\
     Link at most 16 components at a time.\t\
     none: a limit of this project's own\n\
     link\tLinkReason\t3\tNoProvider\t\
-    no export of an earlier component has the imported name, or that of its interface in a \
-    compatible version\t\
+    no export of an earlier component that the import sees has its name, or that of its interface \
+    in a compatible version\t\
     The file that exports it stands behind the one that imports it, is missing, or has another \
     name or version; or the host is to give it.\t\
     Put the provider before the user; for what a host gives, make a stand-in: `hux stub FILE -o \

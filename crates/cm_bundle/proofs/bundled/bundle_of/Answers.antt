@@ -14,6 +14,6 @@ returns-clause-supplied c =
     let exports = map supply_tree c.in_ok-exports.exports.items in
     let parts = c.in_ok-parts.ensures.parts in
     let below : c.args.exporter < 0 + length files = omega (arith, c.requires.each, c.requires.exporter_there) in
-    let before : AllByRecursion (IsBefore (0 + length files)) exports = subst (λ (xs : List SupplyTree). AllByRecursion (IsBefore (0 + length files)) xs) (sym c.in_ok-exports.ensures.exports) (exports_before set c.args.exporter (0 + length files) below) in
+    let before : AllByRecursion (IsBefore (0 + length files)) exports = subst (λ (xs : List SupplyTree). AllByRecursion (IsBefore (0 + length files)) xs) (sym c.in_ok-exports.ensures.exports) (exports_before set.spaces c.args.exporter (0 + length files) below) in
     subst (λ (ps : List PartTree). AreSupplied 0 ps exports) (sym parts)
     (are_supplied set (c.links_lead_earlier.ensures set) 0 files exports (subst AreTexts parts c.in_ok-parts.ensures.texts) (are_supplies (0 + length files) exports c.in_ok-exports.ensures.texts before))

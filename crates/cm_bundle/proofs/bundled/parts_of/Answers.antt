@@ -36,7 +36,7 @@ loop-component-preserved c =
     let space = space_there cs n x there in
     let own = own_lines set c.components-components.ensures.linked n _ space k count lines c.loop-component.invariant.2 in
     let others = other_lines set c.components-components.ensures.linked n _ space k count lines c.loop-component.invariant.2 in
-    let given = c.in_ok-arguments.ensures.arguments ∙ ap (filter_map (argument_of set)) (c.split_at.ensures.front ∙ own) in (
+    let given = c.in_ok-arguments.ensures.arguments ∙ ap (filter_map (argument_of set.spaces)) (c.split_at.ensures.front ∙ own) in (
       parts_pushed set c.args.files.now n _ c.loop-component.parts.items c.push.new.self.items c.in_ok-arguments.arguments c.loop-component-test.true c.in_ok-push.ensures.items c.loop-component.invariant.0 given,
       subst (λ (ps : List Part). AreTexts (map part_tree ps)) (sym c.in_ok-push.ensures.items) (part_texts c.loop-component.parts.items _ c.loop-component.invariant.1 c.in_ok-arguments.ensures.texts),
       c.split_at.ensures.back ∙ others,

@@ -12,4 +12,4 @@ abbrev pub invariant-loop-component : goal.invariant-loop-component
 invariant-loop-component l =
     (map part_tree l.parts.items ≡ map (part_of (set_in l.linked)) (enumerate_from 0 (take l.component (map (λ f. f.now) l.files))))
     × AreTexts (map part_tree l.parts.items)
-    × (l.lines ≡ lines_of (set_in l.linked) (all_imports_from l.component (drop l.component (set_in l.linked))))
+    × (l.lines ≡ lines_of (set_in l.linked) (all_imports_from l.component (drop l.component (set_in l.linked).spaces)))

@@ -12,7 +12,7 @@ unreachable-requires c =
     let set = set_in c.args.linked.now in
     let cs = components_in c.args.linked.now in
     let files : List (List ℕ) = map (λ f. f.now) c.args.files.now in
-    let each : length files ≡ length set =
+    let each : length files ≡ length set.spaces =
     omega (
       arith,
       c.if-files-count.false,

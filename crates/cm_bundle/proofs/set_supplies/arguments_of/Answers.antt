@@ -12,7 +12,7 @@ use Rattle.cm_bundle.proofs.set_supplies.arguments_of.Goals as goal
 
 pub loop-line-preserved : goal.loop-line-preserved
 loop-line-preserved c =
-    let h = argument_of (set_in c.args.linked.now) in
+    let h = argument_of (set_in c.args.linked.now).spaces in
     let old = c.loop-line.arguments.items in
     elim c.match-argument_of.branch [
       | in-Some+in_ok-push w ↦

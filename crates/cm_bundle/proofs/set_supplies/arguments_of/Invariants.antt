@@ -8,5 +8,5 @@ use Rattle.cm_bundle.proofs.set_supplies.arguments_of.Given as goal
 
 abbrev pub invariant-loop-line : goal.invariant-loop-line
 invariant-loop-line l =
-    (map supply_tree l.arguments.items ≡ filter_map (argument_of (set_in l.linked)) (take l.line-index l.lines))
+    (map supply_tree l.arguments.items ≡ filter_map (argument_of (set_in l.linked).spaces) (take l.line-index l.lines))
     × AllByRecursion HasTexts (map supply_tree l.arguments.items)

@@ -19,7 +19,7 @@ pub returns : goal.returns
 returns c = λ ty.
     let set = set_in c.args.linked.now in
     let t : Target = target_def (components_in c.args.linked.now) c.in-Some.target in
-    let found : targets_of set (links_of set) c.args.component c.args.import c.args.item ≡ Some t = sym c.target.ensures.target ∙ ap (option_map (target_def (components_in c.args.linked.now))) c.in-Some.is in
+    let found : targets_of set.spaces (links_of set) c.args.component c.args.import c.args.item ≡ Some t = sym c.target.ensures.target ∙ ap (option_map (target_def (components_in c.args.linked.now))) c.in-Some.is in
     let f : FuncTy = func_at (funcs_at (components_in c.args.linked.now) c.in-Some.target.component) c.in-Some.target.ty.place in
     let stays : f ≡ t.ty = sym (ap (λ b. replaced_func (moved_by b) f) c.in-Some.ensures.unmoved ∙ c.unmoved.ensures.funcs f) in
     let types : IsCallTypes (standing set t.component) t.ty c.in_ok-types.types.value = subst (λ (x : FuncTy). IsCallTypes (standing set t.component) x c.in_ok-types.types.value) stays c.in_ok-types.ensures.passes in

@@ -1,33 +1,27 @@
-use Rattle.std.proofs.Common.{rules, ◌<◌, ◌≤◌, arith, length, subst, List}
-use Rattle.cm_match_model.specs.declared.plan.TheConstants.{MAX_COMPONENTS}
-use Rattle.cm_match_serving.specs.cm_validate_spaces.declared.checked.Checked.{Checked}
-use Rattle.cm_match_serving.specs.Choices.{AreChoices}
-use Rattle.cm_match_serving.specs.Sets.{set_of}
-use Rattle.cm_match.proofs.Walking.{fault_set, linked_set, memory_set, plan_set}
+use Rattle.std.proofs.Common.{◌≡◌, ◌⊎◌, subst}
+use Rattle.std.specs.Prelude.{IfErr, IfOk}
+use Rattle.cm_match_model.specs.declared.fault.LinkReason.TheVariants as reason
+use Rattle.cm_match_model.specs.Imports.{Sees, seen_by}
+use Rattle.cm_match_model.specs.Links.{CanBeLinked, IsLinkFault}
+use Rattle.cm_match_serving.specs.Sets.{spaces_of_all}
+use Rattle.cm_match.specs.Before.{AreServedBefore}
+use Rattle.cm_match.specs.Linked.{set_in}
 use Rattle.cm_match.proofs.linking.link.Goals as goal
 
-pub invariant_of-result : goal.invariant_of-result
-invariant_of-result c =
-    let cs = c.args.components.items in
-    let some : 0 < length cs = search rules in
-    let few : length cs ≤ MAX_COMPONENTS = omega arith in
-    record {
-      can_be_linked = ∣ linked_set cs c.deref-2.result.now c.in-Ok-plan_of.plan.items c.deref-2.ensures.value some few c.in-Ok-plan_of.ensures.served ∣₁;
-      chosen = subst (λ (xs : List Checked). AreChoices (set_of xs) c.in-Ok.choices.items) c.deref.ensures.value c.in-Ok.ensures;
-      planned = plan_set cs c.deref-2.result.now c.in-Ok-plan_of.plan.items c.deref-2.ensures.value c.in-Ok-plan_of.ensures.served;
-      few = few;
-    }
+pub returns-clause-set : goal.returns-clause-set
+returns-clause-set c =
+    subst (λ (sees : Sees). IfOk c.link_by.result (λ l. set_in l ≡ seen_by sees (spaces_of_all c.args.components.items))) c.none.ensures c.link_by.ensures.set
+
+pub returns-clause-accepted : goal.returns-clause-accepted
+returns-clause-accepted c =
+    subst (λ (sees : Sees). IfOk c.link_by.result (λ l. CanBeLinked (seen_by sees (spaces_of_all c.args.components.items)))) c.none.ensures c.link_by.ensures.accepted
 
 pub returns-clause-complete : goal.returns-clause-complete
 returns-clause-complete c =
-    let cs = c.args.components.items in
-    let some : 0 < length cs = search rules in
-    let few : length cs ≤ MAX_COMPONENTS = omega arith in
-    memory_set cs c.deref-2.result.now c.in-Err.fault (c.sets_have_one_answer.ensures.never_both (set_of cs) c.in-Err.fault.component c.in-Err.fault.import c.in-Err.fault.reason) c.deref-2.ensures.value some few c.in-Err.ensures.fault
+    subst (λ (sees : Sees). CanBeLinked (seen_by sees (spaces_of_all c.args.components.items)) → IfErr c.link_by.result (λ f. f.reason ≡ reason.Memory)) c.none.ensures c.link_by.ensures.complete
 
 pub returns-clause-refused : goal.returns-clause-refused
 returns-clause-refused c =
     let cs = c.args.components.items in
-    let some : 0 < length cs = search rules in
-    let few : length cs ≤ MAX_COMPONENTS = omega arith in
-    fault_set cs c.deref-2.result.now c.in-Err.fault c.deref-2.ensures.value some few c.in-Err.ensures.fault
+    subst (λ (sees : Sees). IfErr c.link_by.result (λ f. ((f.reason ≡ reason.Memory) × AreServedBefore (seen_by sees (spaces_of_all cs)) f.component f.import) ⊎ IsLinkFault (seen_by sees (spaces_of_all cs)) f.component f.import f.reason))
+    c.none.ensures c.link_by.ensures.refused

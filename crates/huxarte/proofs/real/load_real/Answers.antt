@@ -1,12 +1,10 @@
 use Rattle.std.proofs.Common.{◌≡◌, ◌⊎◌, ◌∙◌, Err, map, sym, ap, subst}
 use Rattle.std.proofs.lemmas.Result.{err_from_is_err_and}
-use Rattle.cm_validate_model.specs.Spaces.{spaces_of}
-use Rattle.cm_match_serving.specs.Sets.{sections_of}
 use Rattle.cm_match_model.specs.declared.fault.LinkReason.TheVariants as link_reason
 use Rattle.cm_match_model.specs.Links.{CanBeLinked, IsLinkFault}
 use Rattle.cm_match.specs.Before.{AreServedBefore}
 use Rattle.cm_shims.specs.Files.{AreRead, reading_of}
-use Rattle.huxarte.specs.Loading.{IsMisuse}
+use Rattle.huxarte.specs.Loading.{set_of}
 use Rattle.huxarte.specs.Real.{IsRealLinkFault, IsRealSetFault}
 use Rattle.huxarte.proofs.LoadingLaws.{misuse_of}
 use Rattle.huxarte.proofs.real.load_real.Goals as goal
@@ -31,7 +29,7 @@ returns-in_err-linked-clause-fault c =
       readings = map reading_of c.deref.result.now;
       are = record { read = read; sound = c.in_ok-checked.ensures.sound };
       fails = subst (λ set. ((f.reason ≡ link_reason.Memory) × AreServedBefore set f.component f.import) ⊎ IsLinkFault set f.component f.import f.reason)
-          (ap (map spaces_of) c.in_ok-checked.ensures.held) c.in_err-linked.ensures.refused;
+          (ap set_of c.in_ok-checked.ensures.held) c.in_err-linked.ensures.refused;
     } in
     rw (p.1, p.2) fault
 
@@ -39,14 +37,13 @@ pub returns-in_err-new-clause-fault : goal.returns-in_err-new-clause-fault
 returns-in_err-new-clause-fault c =
     let p = err_from_is_err_and c.from_residual-in_err-new.result c.from_residual-in_err-new.ensures.1 in
     let read = subst (λ cs. AreRead (map (λ f. f.now) c.args.files.now) (map reading_of cs)) (sym c.deref.ensures.value) c.in_ok-components.ensures.read in
-    let is = ap (map spaces_of) (sym c.in_ok-checked.ensures.held) in
-    let set = ap (map spaces_of) (sym (ap sections_of c.in_ok-linked.ensures.components ∙ c.in_ok-checked.ensures.held)) in
+    let is = ap set_of (sym c.in_ok-checked.ensures.held) in
+    let set = c.in_ok-linked.ensures.set ∙ ap set_of c.in_ok-checked.ensures.held in
     let fault : IsRealSetFault (map (λ f. f.now) c.args.files.now) c.args.pages.now c.in_err-new.field-0.0 = record {
       readings = map reading_of c.deref.result.now;
       are = record { read = read; sound = c.in_ok-checked.ensures.sound };
       linked = subst CanBeLinked (sym is) c.in_ok-linked.ensures.accepted;
-      fails = subst (λ s. IsMisuse s c.args.pages.now c.in_err-new.field-0.0) (sym set)
-          (misuse_of _ c.args.pages.now c.in_err-new.field-0.0 c.in_err-new.ensures.only
-          (λ at. c.in_err-new.ensures.bad_pages.0 (ap Err at)));
+      fails = misuse_of _ _ c.args.pages.now c.in_err-new.field-0.0 set c.in_err-new.ensures.only
+          (λ at. c.in_err-new.ensures.bad_pages.0 (ap Err at));
     } in
     rw (p.1, p.2) fault

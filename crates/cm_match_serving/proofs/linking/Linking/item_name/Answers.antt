@@ -15,4 +15,4 @@ returns-in_ok-get-in-Instance c =
     let at : slice_get c.in-Instance.ty.value.items.items c.args.item ≡ Some it =
     sym (got c.deref-in-Instance.result.now c.args.item (Some c.in_ok-get-in-Instance.field-0) c.in_ok-get-in-Instance.ensures.lookup ∙ ap (λ (xs : List Item). slice_get xs c.args.item) items) in
     ap Some c.as_str.ensures.text
-    ∙ item_read (set_in c.args.self.now) c.args.component c.args.import c.args.item (types_at cs c.args.component) (funcs_at cs c.args.component) c.in_ok-ty.field-0.now c.in-Instance.ty c.in-Instance.by it c.in_ok-ty.ensures c.in-Instance.is at
+    ∙ item_read (set_in c.args.self.now).spaces c.args.component c.args.import c.args.item (types_at cs c.args.component) (funcs_at cs c.args.component) c.in_ok-ty.field-0.now c.in-Instance.ty c.in-Instance.by it c.in_ok-ty.ensures c.in-Instance.is at

@@ -5,5 +5,5 @@ use Rattle.cm_match_serving.proofs.linking.Linking.link.Goals as goal
 
 pub overflow_cast-result : goal.overflow_cast-result
 overflow_cast-result c =
-    let lt : c.in-One.component < c.args.component = one_earlier (set_in c.args.self.now) c.args.component c.args.import c.in-One.component c.in-One.export (c.links_lead_earlier.ensures (set_in c.args.self.now)) (sym c.choice.ensures ∙ c.in_ok-component.was ∙ ap Some c.in-One.is) in
+    let lt : c.in-One.component < c.args.component = one_earlier (set_in c.args.self.now) c.args.component c.args.import c.in-One.component c.in-One.export (c.links_lead_earlier.ensures (set_in c.args.self.now)) (sym c.candidate.ensures ∙ c.in_ok-component.was ∙ ap Some c.in-One.is) in
     omega (arith, lt, c.ranges.component.fits)

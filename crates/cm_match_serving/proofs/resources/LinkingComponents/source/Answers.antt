@@ -22,7 +22,7 @@ returns-in-Defined c =
     let at = c.args.resource.component in
     let there = sym (got c.components.result.now at (Some c.in_ok-get.field-0) c.in_ok-get.ensures.lookup ∙ ap (λ ys. slice_get ys at) c.components.ensures.components) in
     sym (source_told cs at c.in_ok-get.field-0.now there c.args.resource.number (Some c.in_ok-resource.field-0) c.in_ok-resource.ensures
-    ∙ ap (λ (r : Resource). Some (source_by (set_in c.args.self.now) at (resource_def r))) c.in-Defined.is)
+    ∙ ap (λ (r : Resource). Some (source_by (set_in c.args.self.now).spaces at (resource_def r))) c.in-Defined.is)
 
 pub returns-in-Some : goal.returns-in-Some
 returns-in-Some c =
@@ -30,7 +30,7 @@ returns-in-Some c =
     let at = c.args.resource.component in
     let there = sym (got c.components.result.now at (Some c.in_ok-get.field-0) c.in_ok-get.ensures.lookup ∙ ap (λ ys. slice_get ys at) c.components.ensures.components) in
     sym (source_told cs at c.in_ok-get.field-0.now there c.args.resource.number (Some c.in_ok-resource.field-0) c.in_ok-resource.ensures
-    ∙ ap (λ (r : Resource). Some (source_by (set_in c.args.self.now) at (resource_def r))) c.in-Brought.is
+    ∙ ap (λ (r : Resource). Some (source_by (set_in c.args.self.now).spaces at (resource_def r))) c.in-Brought.is
     ∙ ap (λ (o : Option (List ℕ)). Some (option_map (λ name. (c.in-Brought.import, name)) o)) (sym c.in-Some.ensures))
 
 pub returns-in-None : goal.returns-in-None
@@ -39,5 +39,5 @@ returns-in-None c =
     let at = c.args.resource.component in
     let there = sym (got c.components.result.now at (Some c.in_ok-get.field-0) c.in_ok-get.ensures.lookup ∙ ap (λ ys. slice_get ys at) c.components.ensures.components) in
     sym (source_told cs at c.in_ok-get.field-0.now there c.args.resource.number (Some c.in_ok-resource.field-0) c.in_ok-resource.ensures
-    ∙ ap (λ (r : Resource). Some (source_by (set_in c.args.self.now) at (resource_def r))) c.in-Brought.is
+    ∙ ap (λ (r : Resource). Some (source_by (set_in c.args.self.now).spaces at (resource_def r))) c.in-Brought.is
     ∙ ap (λ (o : Option (List ℕ)). Some (option_map (λ name. (c.in-Brought.import, name)) o)) (sym c.in-None.ensures))

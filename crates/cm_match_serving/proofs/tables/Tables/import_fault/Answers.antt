@@ -13,6 +13,6 @@ returns-in-One-clause-fault c =
     let n = c.args.import in
     let l : Link = record { component = c.in-One.provider; export = c.in-One.export } in
     if_ok_more c.export_fault.result _ _ c.export_fault.ensures.fault (λ r h x there.
-    let link = one_link (candidates set at x) c.in-One.provider c.in-One.export (sym c.in-One.is ∙ chosen set at n x c.in-Some.choice c.in-Some.ensures there) in
+    let link = one_link (candidates set at n x) c.in-One.provider c.in-One.export (sym c.in-One.is ∙ chosen set at n x c.in-Some.candidate c.in-Some.ensures there) in
     let e = c.links_name_exports.ensures set at n l (linked set at n x l there link) in
     import_answer set at n x l e.0 r link e.1 (h x e.0 there e.1))

@@ -15,7 +15,7 @@ returns-clause-known c =
     let at = c.args.side.now.component in
     let x = c.index-components-side.result in
     let ys = c.components.result.now in
-    known_next c.known_stays.ensures cs c.args.self.now c.number_type.new.numbers at c.types-types.result.now c.number_type.new.self c.requires c.number_type.ensures.kept
+    known_next c.known_stays.ensures c.args.side.now.linking c.args.self.now c.number_type.new.numbers at c.types-types.result.now c.number_type.new.self c.requires c.number_type.ensures.kept
     (c.types-types.ensures.types ∙ types_there cs ys at x c.args.side.now.there c.components.ensures.components c.index-components-side.is)
     (c.types-types.ensures.funcs ∙ funcs_there cs ys at x c.args.side.now.there c.components.ensures.components c.index-components-side.is)
     c.number_type.ensures.known

@@ -1,0 +1,69 @@
+//! The words that choose where several exports fit an import.
+
+use crate::fault::Fault;
+use crate::loading::Loaded;
+use crate::providers::Provider;
+use crate::serve_words::component_name;
+use cm_match_model::{Candidate, LinkFault};
+use cm_tool_help_texts::Escaped;
+use std::alloc::{AllocError, Global};
+
+/// What stands behind the tail of a `TwoProviders`: the words that choose the last component before
+/// that has an export for the import.
+pub(crate) fn choosing_text<'a>(
+    alloc: Global,
+    files: &[Loaded<'a>],
+    fault: LinkFault,
+) -> Result<String, Fault<'a>> {
+    let Some(file) = files.get(fault.component) else {
+        return Ok(String::new(alloc));
+    };
+    let importer = file.check(alloc)?;
+    let Some(import) = importer.imports().get(fault.import) else {
+        return Ok(String::new(alloc));
+    };
+    for (number, file) in files.iter().enumerate().take(fault.component).rev() {
+        let checked = file.check(alloc)?;
+        let provider = Provider::new(alloc, number, checked.exports())?;
+        let candidate = provider.fitting(alloc, &import.name)?;
+        if candidate != Candidate::None {
+            let called = called_as(alloc, files, number, file.name)?;
+            return Ok(words(alloc, import.name.as_str(), called.as_str(), candidate)?);
+        }
+    }
+    Ok(String::new(alloc))
+}
+
+/// The word for a file: what its component is called, or its number where another one is so too.
+fn called_as(
+    alloc: Global,
+    files: &[Loaded<'_>],
+    number: usize,
+    file: &str,
+) -> Result<String, AllocError> {
+    let name = component_name(file);
+    let mut alike: usize = 0;
+    for other in files {
+        if component_name(other.name) == name {
+            alike = alike.saturating_add(1);
+        }
+    }
+    if alike > 1 {
+        return format!(in alloc; "{number}");
+    }
+    String::from_str(alloc, name)
+}
+
+/// The words that choose a component for an import.
+fn words(
+    alloc: Global,
+    import: &str,
+    provider: &str,
+    candidate: Candidate,
+) -> Result<String, AllocError> {
+    let (import, provider) = (Escaped(import), Escaped(provider));
+    if candidate == Candidate::Several {
+        return format!(in alloc; "; choose: --serve {import}={provider}/EXPORT");
+    }
+    format!(in alloc; "; choose: --serve {import}={provider}, or --nearest")
+}
