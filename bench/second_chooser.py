@@ -2,9 +2,10 @@
 """A second reader of the words that choose who serves whom, written from docs/COMMAND.md alone, and
 random sets for both.
 
-Sets of up to 16 files get names, some of them twice, words for `--serve` that mostly mean
-something, and in half of the sets `--nearest`. What this reader answers, the plan or how the line
-of the fault begins, is what `hux link` has to answer to the same words.
+Sets of up to 16 components get names, some of them twice, words for `--serve` that mostly mean
+something, and in half of the sets `--nearest`. In some, files in a row that link by themselves are
+a bundle, which `hux link -o` has written. What this reader answers, the plan or how the line of the
+fault begins, is what `hux link` has to answer to the same words.
 
 bench/second_chooser.py [COUNT [SEED]] links 1,000 sets, or so many, and prints how many had a plan,
 and which faults the others had. HUX names a program for ../hux.
@@ -15,6 +16,7 @@ import random
 import subprocess
 import sys
 import tempfile
+from dataclasses import dataclass, field
 from pathlib import Path
 
 from second_linker import MOST, TOP, Component, Unlinked, fits, likely_set, provider
@@ -29,9 +31,25 @@ class Refused(Exception):
         super().__init__(status, f"error: --serve {word}: {why}")
 
 
+@dataclass
+class Files:
+    """The components of files, in order, and what the files are called. A bundle is called as its
+    last part, whose exports it has; its other parts have no name, and are not seen. Links are those
+    inside of bundles, by component and import."""
+
+    components: list
+    names: list
+    links: dict = field(default_factory=dict)
+    inside: set = field(default_factory=set)
+
+    def exports(self, number):
+        """What those behind a component see of it."""
+        return self.components[number].exports if self.names[number] else []
+
+
 def called(names, word):
     """The number of the file that a word means; none, or more than one, as a text."""
-    found = [number for number, name in enumerate(names) if name == word]
+    found = [number for number, name in enumerate(names) if name and name == word]
     if not found and word.isdecimal() and int(word) < len(names):
         found = [int(word)]
     return found[0] if len(found) == 1 else ("several" if found else "none")
@@ -64,14 +82,14 @@ def read_word(names, word):
     return importer, left, number, export
 
 
-def one_export(component, name):
+def one_export(exports, name):
     """The number of the export that may serve a name: its own, or else the only one that fits."""
-    exact = [at for at, (have, _) in enumerate(component.exports) if have == name]
-    fitting = [at for at, (have, _) in enumerate(component.exports) if fits(name, have)]
+    exact = [at for at, (have, _) in enumerate(exports) if have == name]
+    fitting = [at for at, (have, _) in enumerate(exports) if fits(name, have)]
     return exact or fitting
 
 
-def by_word(components, read, words, importer, name, used):
+def by_word(files, read, words, importer, name, used):
     """The link of an import by a word, if one is of it."""
     own = [at for at, it in enumerate(read) if it[:2] == (importer, name)]
     if len(own) > 1:
@@ -87,52 +105,66 @@ def by_word(components, read, words, importer, name, used):
         raise Refused(1, words[at], "its provider does not stand before")
     used.add(at)
     if export is not None:
-        there = [e for e, (have, _) in enumerate(components[number].exports) if have == export]
+        there = [e for e, (have, _) in enumerate(files.exports(number)) if have == export]
         if not there:
             raise Refused(1, words[at], "its provider has no export of this name")
         return number, there[0]
-    there = one_export(components[number], name)
+    there = one_export(files.exports(number), name)
     if len(there) != 1:
         raise Refused(1, words[at], "its provider has no export that fits")
     return number, there[0]
 
 
-def nearest(components, importer, name):
-    for number in range(importer - 1, -1, -1):
-        there = one_export(components[number], name)
-        if there:
-            return (number, there[0]) if len(there) == 1 else None
-    return None
+def without_word(files, importer, name, is_nearest):
+    """The link of an import without a word: to the nearest, or the only one."""
+    before = [(number, one_export(files.exports(number), name)) for number in range(importer)]
+    before = [it for it in before if it[1]]
+    if not before or not is_nearest and len(before) > 1:
+        return None
+    number, there = before[-1]
+    return (number, there[0]) if len(there) == 1 else None
 
 
-def choices(components, names, words, is_nearest):
-    """The links that the words choose."""
-    read = [read_word(names, word) for word in words]
-    used, links = set(), {}
-    for importer, component in enumerate(components):
+def choices(files, words, is_nearest):
+    """The links that the words choose, and those inside of bundles."""
+    if words and all(number in files.inside for number in range(len(files.names))):
+        if len([name for name in files.names if name]) == 1:
+            raise Refused(1, words[0], "a bundle is linked by its own arguments")
+    read = [read_word(files.names, word) for word in words]
+    used, links = set(), dict(files.links)
+    for importer, component in enumerate(files.components):
         for number, (name, _) in enumerate(component.imports):
-            link = by_word(components, read, words, importer, name, used)
-            if link is None and is_nearest:
-                link = nearest(components, importer, name)
-            links[importer, number] = link
+            if importer in files.inside:
+                continue
+            link = by_word(files, read, words, importer, name, used)
+            links[importer, number] = link or without_word(files, importer, name, is_nearest)
     for at, word in enumerate(words):
         if at not in used:
             raise Refused(1, word, "no import of this name stands behind its provider")
     return links
 
 
-def answer(components, names, words, is_nearest):
+def plan(files, links):
+    """The export that serves each import, by component and import."""
+    found, seen = {}, []
+    for importer, component in enumerate(files.components):
+        for number, _ in enumerate(component.imports):
+            link = links.get((importer, number))
+            found[importer, number] = provider(files.components, seen, link, importer, number)
+        seen += [(importer, at, *it) for at, it in enumerate(files.exports(importer))]
+    return found
+
+
+def answer(files, words, is_nearest):
     """The status, and standard output or how standard error begins."""
+    components = files.components
     try:
-        links = choices(components, names, words, is_nearest) if words or is_nearest else {}
-        lines, seen = [], []
-        for importer, component in enumerate(components):
-            for number, (name, _) in enumerate(component.imports):
-                link = links.get((importer, number))
-                found = provider(components, seen, link, importer, number)
-                have = components[found[0]].exports[found[1]][0]
-                lines.append(f"{importer} {name} <- {found[0]} {have}\n")
-            seen += [(importer, at, *it) for at, it in enumerate(component.exports)]
+        found = plan(files, choices(files, words, is_nearest))
+        lines = [
+            f"{importer} {components[importer].imports[number][0]}"
+            f" <- {component} {components[component].exports[export][0]}\n"
+            for (importer, number), (component, export) in found.items()
+        ]
         return 0, "".join(lines)
     except Refused as fault:
         return fault.args
@@ -140,15 +172,16 @@ def answer(components, names, words, is_nearest):
         return 1, f"error: {str(fault).removeprefix('fault ')}:"
 
 
-def random_word(rng, components, names):
+def random_word(rng, files):
     """A word that mostly means something; none where no import has what fits before it."""
+    components, names = files.components, files.names
     served = [
         (importer, name, at, have)
         for importer, component in enumerate(components)
         for name, _ in component.imports
         for at, it in enumerate(components[:importer])
         for have, _ in it.exports
-        if fits(name, have)
+        if fits(name, have) and (names[at] or rng.random() < 0.1)
     ]
     if not served:
         return rng.choice((None, None, "inc=0"))
@@ -166,6 +199,53 @@ def random_word(rng, components, names):
     return rng.choice((f"{left}={right}",) * 99 + (rng.choice((left, f"={right}", f"{left}=")),))
 
 
+def write(folder, number, name, spelling):
+    """Writes a file, and answers its word."""
+    path = Path(folder) / str(number) / f"{name}.wasm"
+    path.parent.mkdir(exist_ok=True)
+    path.write_bytes(spelling)
+    return f"{number}/{name}.wasm"
+
+
+def spelling(component):
+    return component.spelling()
+
+
+def linked_part(rng, components):
+    """From which component to which some in a row link by themselves, and how, if any were found."""
+    for _ in range(8):
+        first = rng.randrange(len(components))
+        end = min(first + rng.choice((1, 2, 2, 3)), len(components))
+        part = Files(components[first:end], [str(it) for it in range(first, end)])
+        try:
+            return first, end, plan(part, choices(part, [], True))
+        except Unlinked:
+            pass
+    return 0, 0, None
+
+
+def random_files(rng, hux, folder, components):
+    """Files of these components, some in a row a bundle, where they link by themselves; and the
+    words that name them."""
+    names = [rng.choice(NAMES) + rng.choice(("", "2", "3")) for _ in components]
+    words = [write(folder, at, *it) for at, it in enumerate(zip(names, map(spelling, components)))]
+    files = Files(components, names)
+    first, end, found = linked_part(rng, components)
+    if found is None or rng.random() < 0.3:
+        return files, words
+    bundle = f"{first}/{names[end - 1]}.set.wasm"
+    made = [hux, "link", "--nearest", *words[first:end], "-o", bundle]
+    subprocess.run(made, cwd=folder, capture_output=True, check=True)
+    files.inside = set(range(first, end))
+    files.links = {
+        (importer + first, number): (component + first, export)
+        for (importer, number), (component, export) in found.items()
+    }
+    files.names[first:end] = [""] * (end - first - 1) + [f"{names[end - 1]}.set"]
+    return files, [*words[:first], bundle, *words[end:]]
+
+
+
 def main():
     count = int(sys.argv[1]) if len(sys.argv) > 1 else 1_000
     rng = random.Random(int(sys.argv[2]) if len(sys.argv) > 2 else 1)
@@ -175,29 +255,23 @@ def main():
     with tempfile.TemporaryDirectory() as folder:
         for at in range(count):
             components = likely_set(rng, pool)[:MOST] or [pool[0]]
-            names = [rng.choice(NAMES) + rng.choice(("", "2", "3")) for _ in components]
-            files = []
-            for number, (name, component) in enumerate(zip(names, components)):
-                path = Path(folder) / str(number) / f"{name}.wasm"
-                path.parent.mkdir(exist_ok=True)
-                path.write_bytes(component.spelling())
-                files.append(f"{number}/{name}.wasm")
-            many = rng.choice((0, 1, 1, 1, 2, 3))
-            words = [random_word(rng, components, names) for _ in range(many)]
+            files, named = random_files(rng, hux, folder, components)
+            words = [random_word(rng, files) for _ in range(rng.choice((0, 1, 1, 1, 2, 3)))]
             words = [it for it in words if it is not None]
             is_nearest = rng.random() < 0.5
-            status, text = answer(components, names, words, is_nearest)
+            status, text = answer(files, words, is_nearest)
             options = [it for word in words for it in ("--serve", word)]
             options += ["--nearest"] * is_nearest
             ran = subprocess.run(
-                [hux, "link", *options, *files], cwd=folder, capture_output=True, text=True
+                [hux, "link", *options, *named], cwd=folder, capture_output=True, text=True
             )
             said = ran.stdout if status == 0 else ran.stderr[: len(text)]
             kind = "plan" if status == 0 else text.split(": ", 2)[-1].split(" in ")[0].strip(":")
+            kind += " with a bundle" if files.inside else ""
             kinds[kind] = kinds.get(kind, 0) + 1
             if (ran.returncode, said) != (status, text):
                 wrong += 1
-                print(f"set {at}: hux link {' '.join(options + files)}: wanted {status} {text}")
+                print(f"set {at}: hux link {' '.join(options + named)}: wanted {status} {text}")
                 print(f"    got {ran.returncode} {ran.stdout}{ran.stderr}")
     print(f"{count} sets, {wrong} wrong; ", end="")
     print(", ".join(f"{name}: {many}" for name, many in sorted(kinds.items())))

@@ -15,7 +15,7 @@ MARK = " => "
 # begin a block of them. No row begins with `#`, so such a family is one block.
 BLOCKS = {
     "packages": ("#",),
-    "links": ("link",),
+    "links": ("link", "by"),
     "runs": ("link",),
     "drives": ("link",),
     "states": ("link",),

@@ -85,9 +85,9 @@ fn link_with_open<'a, 'b, O: Write>(
 ) -> Result<Linked<'b>, Fault<'a>> {
     let components = loaded.check(alloc, unread)?;
     if habits.json {
-        tell_open(alloc, &components, out)?;
+        tell_open(alloc, loaded, &components, out)?;
     } else {
-        write_open(alloc, &components, out)?;
+        write_open(alloc, loaded, &components, out)?;
     }
     loaded.link_checked(alloc, components)
 }
@@ -103,7 +103,7 @@ struct LinkedFiles<'l, 'b, 'a> {
 
 impl<'a> LinkedFiles<'_, '_, 'a> {
     /// Writes the set as one file, where one is named, with the exports of this component, or of
-    /// the last.
+    /// the last file.
     fn write<S: Streams, O: Write>(
         &self,
         name: Option<&'a str>,
@@ -114,8 +114,7 @@ impl<'a> LinkedFiles<'_, '_, 'a> {
         let Some(name) = name else {
             return Ok(());
         };
-        let last = self.linked.components().len().saturating_sub(1);
-        let bytes = self.bundle(export.unwrap_or(last))?;
+        let bytes = self.bundle(export.unwrap_or(self.loaded.exporter()))?;
         write_file(self.alloc, streams, name, &bytes)?;
         tell_of_file(self.alloc, name, bytes.len(), self.habits, out)
     }
@@ -175,10 +174,11 @@ fn tell_of_file<O: Write>(
 
 fn write_open<O: Write>(
     alloc: Global,
+    loaded: &LoadedFiles<'_>,
     components: &[Checked<'_>],
     out: &mut O,
 ) -> Result<(), Fault<'static>> {
-    for open in open_imports(alloc, components)? {
+    for open in open_imports(alloc, components, loaded.groups())? {
         writeln!(out, "{} {} is open", open.component, open.name)?;
     }
     out.flush()?;

@@ -9,14 +9,14 @@ use crate::stubbing::run_stub;
 use cm_hux_call::run_call;
 use cm_hux_json::{core_objects, core_text, signature_objects};
 use cm_hux_play::files::{
-    Asked, Ending, Escaped, Fault, Files, Functions, Loaded, Streams, ToolFault, load_file, report,
-    tell, tell_bytes, tell_fault,
+    Asked, Ending, Escaped, Fault, Files, Functions, Loaded, LoadedFiles, Streams, ToolFault,
+    check_file, load_file, load_files, report, tell, tell_bytes, tell_fault,
 };
 use cm_hux_play::{run_live, run_play};
 use cm_hux_show::{ShowFault, show_world};
 use cm_hux_words::{Answer, ConformWords, Habits, Request, WordsFault};
 use cm_types_arena::Signature;
-use std::alloc::Global;
+use std::alloc::{AllocError, Global};
 use std::io;
 use std::io::Write;
 
@@ -147,7 +147,8 @@ fn print<'a, O: Write>(out: &mut O, text: &str) -> Result<Ending, Fault<'a>> {
     Ok(Ending::Done)
 }
 
-/// Prints of each file, in order, that it is a valid component, or what is wrong with it.
+/// Prints of each file, in order, that it is a valid component, or a bundle of such ones, or what
+/// is wrong with it.
 fn run_check<'a, F: Files, O: Write>(
     alloc: Global,
     names: &[&'a str],
@@ -157,7 +158,7 @@ fn run_check<'a, F: Files, O: Write>(
 ) -> Result<Ending, Fault<'a>> {
     let mut worst = Ending::Done;
     for name in names {
-        let checked = check_file(alloc, name, files);
+        let checked = check_file(alloc, files, name);
         worst = worst.max(ending_of(&checked));
         if habits.quiet && checked.is_ok() {
             continue;
@@ -170,12 +171,6 @@ fn run_check<'a, F: Files, O: Write>(
     }
     out.flush()?;
     Ok(worst)
-}
-
-fn check_file<'a, F: Files>(alloc: Global, name: &'a str, files: &mut F) -> Result<(), Fault<'a>> {
-    let loaded = load_file(alloc, files, name)?;
-    let _checked = loaded.check(alloc)?;
-    Ok(())
 }
 
 /// How a command ends by what it found of a file.
@@ -246,7 +241,8 @@ fn tell_shown<'a, O: Write>(
     print(out, lines.as_str())
 }
 
-/// Prints what a script has to know of the core functions of the component of a file.
+/// Prints what a script has to know of the core functions of the component of a file, or of each
+/// part of a bundle, in order, behind a line with its number.
 fn run_core<'a, F: Files, O: Write>(
     alloc: Global,
     name: &'a str,
@@ -254,9 +250,33 @@ fn run_core<'a, F: Files, O: Write>(
     files: &mut F,
     out: &mut O,
 ) -> Result<Ending, Fault<'a>> {
-    let loaded = load_file(alloc, files, name)?;
-    let text = core_lines(alloc, &loaded, habits)?;
+    let (loaded, unread) = load_files(alloc, files, &[name]);
+    let _checked = loaded.check(alloc, unread)?;
+    let text = core_text_of(alloc, &loaded, habits)?;
     print(out, text.as_str())
+}
+
+fn core_text_of<'a>(
+    alloc: Global,
+    loaded: &LoadedFiles<'a>,
+    habits: Habits,
+) -> Result<String, Fault<'a>> {
+    let mut text = String::new(alloc);
+    for (number, file) in loaded.files().iter().enumerate() {
+        if loaded.bundle().is_some() {
+            text.push_str(part_line(alloc, number, habits)?.as_str())?;
+        }
+        text.push_str(core_lines(alloc, file, habits)?.as_str())?;
+    }
+    Ok(text)
+}
+
+/// The line before those of a part of a bundle.
+fn part_line(alloc: Global, number: usize, habits: Habits) -> Result<String, AllocError> {
+    if habits.json {
+        return format!(in alloc; "{{\"component\":{number}}}\n");
+    }
+    format!(in alloc; "component {number}\n")
 }
 
 /// A line, or an object, for each core function of a file.

@@ -1,7 +1,8 @@
 //! What commands do, told as objects.
 
 use cm_hux_play::files::{
-    Asked, Bundle, Checked, Fault, Linked, Object, Value, fault_object, open_imports, tell,
+    Asked, Bundle, Checked, Fault, Linked, LoadedFiles, Object, Value, fault_object, open_imports,
+    tell,
 };
 use std::alloc::{AllocError, Global};
 use std::io::Write;
@@ -97,13 +98,14 @@ pub(crate) fn tell_plan<O: Write>(
     Ok(())
 }
 
-/// Tells each import that no component before exports.
+/// Tells each import of files that no component before exports.
 pub(crate) fn tell_open<O: Write>(
     alloc: Global,
+    loaded: &LoadedFiles<'_>,
     components: &[Checked<'_>],
     out: &mut O,
 ) -> Result<(), Fault<'static>> {
-    for open in open_imports(alloc, components)? {
+    for open in open_imports(alloc, components, loaded.groups())? {
         tell(
             import_object(alloc, (open.component, open.name), None)?,
             out,

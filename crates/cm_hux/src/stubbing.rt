@@ -4,7 +4,7 @@ use crate::objects::tell_written;
 use cm_binary::encode;
 use cm_binary_model::Component;
 use cm_hux_play::files::{
-    Ending, Fault, Files, LoadedFiles, Streams, caller, load_files, provider_for,
+    Ending, Escaped, Fault, Files, LoadedFiles, Streams, caller, load_files, provider_for,
     refuse_to_overwrite, signature, write_file,
 };
 use cm_hux_words::{Habits, StubWords};
@@ -48,17 +48,23 @@ fn stub_bytes<'a, F: Files>(
     Ok(encode(alloc, &stub)?)
 }
 
-/// A component that exports what the first of these files imports.
+/// A component that exports what the first of these files imports. A bundle among other files is
+/// refused: what its parts are given is not seen here.
 fn provider<'a>(alloc: Global, loaded: LoadedFiles<'a>) -> Result<Component, Fault<'a>> {
+    if let Some(group) = loaded.groups().first() {
+        let name = Escaped(group.name);
+        let text = format!(in alloc; "{name}: it is a bundle: name the files that it is made of")?;
+        return Err(Fault::Refused(text));
+    }
     let components = loaded.into_components(alloc)?;
     Ok(provider_for(alloc, &components)?)
 }
 
 /// A component that imports what the last of these files exports, whatever serves their imports.
 fn caller_of_last<'a>(alloc: Global, loaded: &LoadedFiles<'a>) -> Result<Component, Fault<'a>> {
-    let mut components = loaded.check(alloc, None)?;
-    let Some(last) = components.pop() else {
+    let _components = loaded.check(alloc, None)?;
+    let Some(last) = loaded.files().get(loaded.exporter()) else {
         return Err(Fault::Memory);
     };
-    Ok(caller(alloc, &signature(alloc, last)?)?)
+    Ok(caller(alloc, &signature(alloc, last.check(alloc)?)?)?)
 }

@@ -19,7 +19,7 @@ pub(crate) fn caller_of<'a>(
     unread: Option<Fault<'a>>,
 ) -> Result<Component, Fault<'a>> {
     let _linked = loaded.link(alloc, unread)?;
-    let Some(last) = loaded.files().last() else {
+    let Some(last) = loaded.files().get(loaded.exporter()) else {
         return Err(Fault::Memory);
     };
     Ok(caller(alloc, &signature(alloc, last.check(alloc)?)?)?)
@@ -36,7 +36,7 @@ pub(crate) fn link_behind<'a, 'b>(
     let mut choices = loaded.choices(alloc, &components)?;
     match checked_of(alloc, CALLER, stub) {
         Ok(caller) => {
-            choose_last(alloc, &mut choices, &components, &caller)?;
+            choose_of(alloc, &mut choices, loaded.exporter(), &components, &caller)?;
             components.push(caller)?;
         }
         Err(bad) => return Err(of_file(bad, String::new(alloc))),
@@ -52,21 +52,21 @@ pub(crate) fn link_behind<'a, 'b>(
     }
 }
 
-/// Chooses, for each import of a caller behind these components, the export of its name of the
-/// last one.
-fn choose_last(
+/// Chooses, for each import of a caller behind these components, the export of its name of the one
+/// of this number.
+fn choose_of(
     alloc: Global,
     choices: &mut Choices,
+    number: usize,
     components: &[Checked<'_>],
     caller: &Checked<'_>,
 ) -> Result<(), AllocError> {
-    let Some(last) = components.last() else {
+    let Some(last) = components.get(number) else {
         return Ok(());
     };
     for _ in choices.links.len()..components.len() {
         choices.links.push(Vec::new(alloc))?;
     }
-    let number = components.len().saturating_sub(1);
     let row = links_by_name(alloc, number, last.exports(), caller.imports())?;
     choices.links.push(row)?;
     Ok(())
@@ -88,11 +88,11 @@ pub(crate) fn set_with_caller(
     }
 }
 
-/// The words of the command line that name the files, and behind them the caller.
+/// The words that name the files and the parts of bundles, and behind them the caller.
 pub(crate) fn names_of(alloc: Global, loaded: &LoadedFiles<'_>) -> Result<Vec<String>, AllocError> {
     let mut names = Vec::new(alloc);
     for file in loaded.files() {
-        names.push(String::from_str(alloc, file.name)?)?;
+        names.push(String::from_str(alloc, file.word())?)?;
     }
     names.push(String::from_str(alloc, CALLER)?)?;
     Ok(names)

@@ -82,7 +82,7 @@ impl Pairs {
         self.with_pairs(&self.old, "old", text)
     }
 
-    /// The same of the new side.
+    /// A text of the new side, in which numbers of both sides stand for resources.
     pub(crate) fn new_text(&self, text: &str) -> Result<String, AllocError> {
         self.with_pairs(&self.new, "new", text)
     }

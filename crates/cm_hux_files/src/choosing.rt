@@ -9,10 +9,11 @@ use cm_tool_help_texts::Escaped;
 use std::alloc::{AllocError, Global};
 
 /// What stands behind the tail of a `TwoProviders`: the words that choose the last component before
-/// that has an export for the import.
+/// that has an export for the import. The names are those of the files; what has none is not seen.
 pub(crate) fn choosing_text<'a>(
     alloc: Global,
     files: &[Loaded<'a>],
+    names: &[&str],
     fault: LinkFault,
 ) -> Result<String, Fault<'a>> {
     let Some(file) = files.get(fault.component) else {
@@ -23,11 +24,12 @@ pub(crate) fn choosing_text<'a>(
         return Ok(String::new(alloc));
     };
     for (number, file) in files.iter().enumerate().take(fault.component).rev() {
+        let name = names.get(number).copied().unwrap_or("");
         let checked = file.check(alloc)?;
         let provider = Provider::new(alloc, number, checked.exports())?;
         let candidate = provider.fitting(alloc, &import.name)?;
-        if candidate != Candidate::None {
-            let called = called_as(alloc, files, number, file.name)?;
+        if candidate != Candidate::None && !name.is_empty() {
+            let called = called_as(alloc, names, number, name)?;
             return Ok(words(alloc, import.name.as_str(), called.as_str(), candidate)?);
         }
     }
@@ -37,14 +39,14 @@ pub(crate) fn choosing_text<'a>(
 /// The word for a file: what its component is called, or its number where another one is so too.
 fn called_as(
     alloc: Global,
-    files: &[Loaded<'_>],
+    files: &[&str],
     number: usize,
     file: &str,
 ) -> Result<String, AllocError> {
     let name = component_name(file);
     let mut alike: usize = 0;
     for other in files {
-        if component_name(other.name) == name {
+        if component_name(other) == name {
             alike = alike.saturating_add(1);
         }
     }

@@ -1,5 +1,6 @@
 //! Imports that are left open.
 
+use crate::groups::{Group, group_of, is_seen};
 use cm_match_model::Candidate;
 use cm_match_serving::{Checked, ExportEntry, Exports};
 use cm_types_arena::Extern;
@@ -12,16 +13,22 @@ pub struct OpenImport<'a> {
     pub name: &'a str,
 }
 
-/// The imports of these components that fit no export of a component before, in order.
+/// The imports of these components that fit no export that they see of a component before, in
+/// order. The bundles are those among the files: each gives its parts what they import.
 pub fn open_imports<'a>(
     alloc: Global,
     components: &'a [Checked<'_>],
+    groups: &[Group<'_>],
 ) -> Result<Vec<OpenImport<'a>>, AllocError> {
     let mut open = Vec::new(alloc);
     let mut exports = Exports::new(alloc);
     for (number, component) in components.iter().enumerate() {
-        add_open(alloc, &mut open, &exports, number, component.imports())?;
-        add_exports(&mut exports, number, component.exports())?;
+        if group_of(groups, number).is_none() {
+            add_open(alloc, &mut open, &exports, number, component.imports())?;
+        }
+        if is_seen(groups, number) {
+            add_exports(&mut exports, number, component.exports())?;
+        }
     }
     Ok(open)
 }

@@ -7,6 +7,7 @@ mod choosing;
 mod ending;
 mod fault;
 mod fault_objects;
+mod groups;
 mod left_open;
 mod loading;
 mod making;
@@ -34,13 +35,13 @@ pub use cm_validate_functions::Functions;
 pub use ending::Ending;
 pub use fault::{Fault, report};
 pub use fault_objects::{fault_object, tell, tell_bytes, tell_fault};
+pub use groups::Group;
 pub use left_open::open_imports;
 pub use loading::{
-    Loaded, LoadedFiles, kept, load_bytes, load_file, load_files, of_file, read_bytes,
+    Loaded, LoadedFiles, check_file, kept, load_bytes, load_file, load_files, of_file, read_bytes,
 };
 pub use making::{made, write_arguments};
 pub use providers::links_by_name;
-pub use serve_words::component_name;
 pub use stop::{Stop, told};
 pub use streams::{
     DiskStreams, Streams, create, refuse_to_overwrite, unwritten, write_file, write_whole,

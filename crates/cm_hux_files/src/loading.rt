@@ -8,8 +8,10 @@ ghost use Rattle.cm_shims.specs.Fitting.{AllHold};
 
 use crate::choosing::choosing_text;
 use crate::fault::Fault;
+use crate::groups::{Group, Inside, add_places, fault_inside, group_of, is_seen, links_behind};
+use crate::serve_words::{component_name, refuse_words};
 use crate::serving::choices_of;
-use crate::taking::{PART_NAMES, bundle_in, check_links, choices_in};
+use crate::taking::{PART_NAMES, bundle_in, check_links, choices_in, exporter_in, is_bundle};
 use cm_binary_forms::DecodeFault;
 use cm_binary_model::Component;
 use cm_hux_words::ServeWords;
@@ -31,6 +33,8 @@ pub struct Loaded<'a> {
     pub name: &'a str,
     pub bytes: Vec<u8>,
     pub shimmed: Shimmed,
+    /// What a part of a bundle among other files is called, as `name/1`.
+    part: Option<String>,
 }
 
 /// A tail, or none where there is no memory for it.
@@ -93,6 +97,7 @@ pub fn load_bytes<'a>(alloc: Global, name: &'a str, bytes: Vec<u8>) -> Result<Lo
             name,
             bytes,
             shimmed,
+            part: None,
         }),
         Err(ShimFault::Decode(fault)) => Err(not_decoded(alloc, name, bytes.as_slice(), fault)),
         Err(ShimFault::Plain(fault)) => Err(Fault::Plain { name, fault }),
@@ -117,6 +122,24 @@ impl<'a> Loaded<'a> {
                 name: self.name,
                 fault,
             }),
+        }
+    }
+
+    /// What its component is called: as the file without folder and `.wasm`, or as a part of a
+    /// bundle among other files.
+    pub fn called(&self) -> &str {
+        match &self.part {
+            Some(part) => part.as_str(),
+            None => component_name(self.name),
+        }
+    }
+
+    /// The word of the command line that names it, or what it is called as a part of a bundle among
+    /// other files.
+    pub fn word(&self) -> &str {
+        match &self.part {
+            Some(part) => part.as_str(),
+            None => self.name,
         }
     }
 
@@ -149,37 +172,67 @@ fn part_name(number: usize) -> Option<&'static str> {
     PART_NAMES.get(number).copied()
 }
 
-/// What some files stand for, in order: those before the first that cannot be read.
+/// What a part of a bundle of this name is called among other files.
+fn part_word(alloc: Global, name: &str, number: usize) -> Result<String, AllocError> {
+    let name = component_name(name);
+    format!(in alloc; "{name}/{number}")
+}
+
+/// What some files stand for, in order: those before the first that cannot be read. For a bundle
+/// its parts stand.
 #[derive(Drop)]
 pub struct LoadedFiles<'a> {
     loaded: Vec<Loaded<'a>>,
-    /// How many files there are.
+    /// How many components there are.
     count: usize,
-    /// The bundle whose files they are, by its name and its bytes; none where they are files of
-    /// their own.
+    /// The bundle whose parts they all are, by its name and its bytes; none where there are other
+    /// files.
     bundle: Option<(&'a str, Vec<u8>)>,
+    /// The number of the part whose exports it has; none where it has none.
+    exporter: Option<usize>,
+    /// The bundles among other files, in order.
+    groups: Vec<Group<'a>>,
     /// Which exports serve their imports.
     serve: ServeWords<'a>,
 }
 
+/// Reads and checks the file of this name: a component has to be valid, and a bundle to be that of
+/// its parts, each valid, as its arguments link them.
+pub fn check_file<'a, F: Files>(
+    alloc: Global,
+    files: &mut F,
+    name: &'a str,
+) -> Result<(), Fault<'a>> {
+    let bytes = read_bytes(alloc, files, name)?;
+    if is_bundle(alloc, &bytes)? {
+        return check_bundle(alloc, name, bytes);
+    }
+    let loaded = load_bytes(alloc, name, bytes)?;
+    let _checked = loaded.check(alloc)?;
+    Ok(())
+}
+
+fn check_bundle<'a>(alloc: Global, name: &'a str, bytes: Vec<u8>) -> Result<(), Fault<'a>> {
+    match LoadedFiles::of_bundle(alloc, name, bytes) {
+        Ok(loaded) => match loaded.inside(alloc, 0) {
+            Ok(_) => Ok(()),
+            Err(fault) => Err(fault_inside(alloc, name, fault)),
+        },
+        Err(fault) => Err(fault_inside(alloc, name, fault)),
+    }
+}
+
 /// These files, which are read in order, up to the first that cannot be, with its fault, where
 /// there is one. Where there are more than a set may have, one more than that is read, and the
-/// others are not. For a bundle that is the only one its files stand, under the names that
-/// `unbundle` gives them.
+/// others are not. For a bundle its parts stand: under the names that `unbundle` gives them where
+/// it is the only file, and else as `name/1`; then it is linked by itself, and its own fault comes
+/// where it is not the bundle of its parts.
 pub fn load_files<'a, F: Files>(
     alloc: Global,
     files: &mut F,
     names: &[&'a str],
 ) -> (LoadedFiles<'a>, Option<Fault<'a>>) {
-    let mut loaded = LoadedFiles {
-        loaded: Vec::new(alloc),
-        count: names.len(),
-        bundle: None,
-        serve: ServeWords {
-            words: Vec::new(alloc),
-            nearest: false,
-        },
-    };
+    let mut loaded = LoadedFiles::none(alloc, names.len());
     let read = match names {
         [name] => loaded.load_alone(alloc, files, name),
         _ => loaded.load_each(alloc, files, names),
@@ -188,14 +241,119 @@ pub fn load_files<'a, F: Files>(
 }
 
 impl<'a> LoadedFiles<'a> {
+    /// No file yet, of so many.
+    fn none(alloc: Global, count: usize) -> LoadedFiles<'a> {
+        LoadedFiles {
+            loaded: Vec::new(alloc),
+            count,
+            bundle: None,
+            exporter: None,
+            groups: Vec::new(alloc),
+            serve: ServeWords {
+                words: Vec::new(alloc),
+                nearest: false,
+            },
+        }
+    }
+
+    /// The parts of the bundle of this name, whose bytes these are.
+    fn of_bundle(
+        alloc: Global,
+        name: &'a str,
+        bytes: Vec<u8>,
+    ) -> Result<LoadedFiles<'a>, Fault<'a>> {
+        let mut loaded = LoadedFiles::none(alloc, 0);
+        match loaded.load_parts(alloc, &bytes) {
+            Ok(_) => {
+                loaded.bundle = Some((name, bytes));
+                Ok(loaded)
+            }
+            Err(fault) => Err(fault),
+        }
+    }
+
     fn load_each<F: Files>(
         &mut self,
         alloc: Global,
         files: &mut F,
         names: &[&'a str],
     ) -> Result<(), Fault<'a>> {
-        for name in names.iter().take(MAX_COMPONENTS + 1) {
-            self.loaded.push(load_file(alloc, files, name)?)?;
+        for name in names {
+            if self.loaded.len() > MAX_COMPONENTS {
+                break;
+            }
+            self.load_next(alloc, files, name)?;
+        }
+        Ok(())
+    }
+
+    /// Loads a file behind those that are loaded, or the parts of a bundle.
+    fn load_next<F: Files>(
+        &mut self,
+        alloc: Global,
+        files: &mut F,
+        name: &'a str,
+    ) -> Result<(), Fault<'a>> {
+        let bytes = read_bytes(alloc, files, name)?;
+        if is_bundle(alloc, &bytes)? {
+            return self.load_bundle(alloc, name, bytes);
+        }
+        self.loaded.push(load_bytes(alloc, name, bytes)?)?;
+        Ok(())
+    }
+
+    /// Loads the parts of a bundle, which is linked by itself before.
+    fn load_bundle(
+        &mut self,
+        alloc: Global,
+        name: &'a str,
+        bytes: Vec<u8>,
+    ) -> Result<(), Fault<'a>> {
+        match LoadedFiles::of_bundle(alloc, name, bytes) {
+            Ok(alone) => match alone.inside(alloc, self.loaded.len()) {
+                Ok(inside) => Ok(self.add_parts(alloc, name, alone, inside)?),
+                Err(fault) => Err(fault_inside(alloc, name, fault)),
+            },
+            Err(fault) => Err(fault_inside(alloc, name, fault)),
+        }
+    }
+
+    /// What is inside the bundle whose parts these are, where its first part has this number in
+    /// another set.
+    fn inside(&self, alloc: Global, first: usize) -> Result<Inside, Fault<'a>> {
+        let linked = self.link(alloc, None)?;
+        let exporter = match &self.bundle {
+            Some((name, bytes)) => exporter_in(alloc, name, bytes, &linked)?,
+            None => 0,
+        };
+        Ok(Inside {
+            exporter,
+            links: links_behind(alloc, &linked, first)?,
+        })
+    }
+
+    /// Adds the parts of a bundle of this name, inside of which it is so.
+    fn add_parts(
+        &mut self,
+        alloc: Global,
+        name: &'a str,
+        alone: LoadedFiles<'a>,
+        inside: Inside,
+    ) -> Result<(), AllocError> {
+        let LoadedFiles { loaded, bundle, .. } = alone;
+        let first = self.loaded.len();
+        self.count = self.count.saturating_add(loaded.len()).saturating_sub(1);
+        for (number, mut part) in loaded.into_iter().enumerate() {
+            part.part = Some(part_word(alloc, name, number)?);
+            self.loaded.push(part)?;
+        }
+        if let Some((name, bytes)) = bundle {
+            self.groups.push(Group {
+                name,
+                bytes,
+                first,
+                inside,
+            })?;
         }
         Ok(())
     }
@@ -221,6 +379,9 @@ impl<'a> LoadedFiles<'a> {
             return Ok(false);
         };
         self.count = bundle.parts.len();
+        if let Some(supply) = bundle.exports.first() {
+            self.exporter = Some(supply.export.part);
+        }
         for (number, part) in bundle.parts.iter().enumerate() {
             let Some(name) = part_name(number) else {
                 return Ok(true);
@@ -251,6 +412,21 @@ impl<'a> LoadedFiles<'a> {
         match &self.bundle {
             Some((name, bytes)) => Some((name, bytes.as_slice())),
             None => None,
+        }
+    }
+
+    /// The bundles among other files, in order.
+    pub fn groups(&self) -> &[Group<'a>] {
+        &self.groups
+    }
+
+    /// The number of the component whose exports the last file has.
+    pub fn exporter(&self) -> usize {
+        let last = self.loaded.len().saturating_sub(1);
+        match (self.exporter, group_of(&self.groups, last)) {
+            (Some(exporter), _) => exporter,
+            (None, Some(group)) => group.exporter(),
+            (None, None) => last,
         }
     }
 
@@ -299,16 +475,35 @@ impl<'a> LoadedFiles<'a> {
         self.link_checked(alloc, self.check(alloc, unread)?)
     }
 
-    /// What is chosen of the links of the components: by a bundle, or by words.
+    /// What is chosen of the links of the components: by a bundle, or by words. `Refused` comes
+    /// where there is a word for the files of a bundle.
     pub fn choices(&self, alloc: Global, components: &[Checked<'_>]) -> Result<Choices, Fault<'a>> {
         if let Some((name, bytes)) = &self.bundle {
+            refuse_words(alloc, &self.serve.words)?;
             return Ok(choices_in(alloc, name, bytes, components)?);
         }
+        let names = self.names(alloc)?;
+        let mut choices = choices_of(alloc, &names, components, &self.groups, &self.serve)?;
+        add_places(&mut choices, &self.groups, components.len())?;
+        Ok(choices)
+    }
+
+    /// The words that name the files of the components, in order. A bundle among other files names
+    /// the part whose exports it has, and nothing its others.
+    fn names(&self, alloc: Global) -> Result<Vec<&str>, AllocError> {
         let mut names = Vec::with_capacity(alloc, self.loaded.len())?;
-        for file in &self.loaded {
-            names.push(file.name)?;
+        for (number, file) in self.loaded.iter().enumerate() {
+            names.push(self.name_of(number, file.name))?;
         }
-        Ok(choices_of(alloc, &names, components, &self.serve)?)
+        Ok(names)
+    }
+
+    fn name_of<'n>(&'n self, number: usize, name: &'n str) -> &'n str {
+        match group_of(&self.groups, number) {
+            None => name,
+            Some(group) if group.exporter() == number => group.name,
+            Some(_) => "",
+        }
     }
 
     /// The linked set of the components, as words say, or as the bundle links them, which has to be
@@ -337,15 +532,35 @@ impl<'a> LoadedFiles<'a> {
 
     /// What the components have where they do not link, in words.
     fn tail_of(&self, alloc: Global, fault: LinkFault) -> Result<String, Fault<'a>> {
+        let Ok(nothing) = Component::new(Vec::new(alloc)) else {
+            return Ok(String::new(alloc));
+        };
         let mut files = Vec::with_capacity(alloc, self.loaded.len())?;
-        for file in &self.loaded {
-            let component = file.check(alloc)?;
-            files.push((file.name, signature(alloc, component)?))?;
+        for (number, file) in self.loaded.iter().enumerate() {
+            let component = if is_seen(&self.groups, number) {
+                file.check(alloc)?
+            } else {
+                unseen(alloc, file.name, &nothing)?
+            };
+            files.push((file.word(), signature(alloc, component)?))?;
         }
         let mut tail = link_help(alloc, &files, fault)?;
         if fault.reason == LinkReason::TwoProviders {
-            tail.push_str(choosing_text(alloc, &self.loaded, fault)?.as_str())?;
+            let names = self.names(alloc)?;
+            tail.push_str(choosing_text(alloc, &self.loaded, &names, fault)?.as_str())?;
         }
         Ok(tail)
+    }
+}
+
+/// A component that stands for one of which nothing is seen.
+fn unseen<'a, 'b>(
+    alloc: Global,
+    name: &'a str,
+    nothing: &'b Component,
+) -> Result<Checked<'b>, Fault<'a>> {
+    match checked_of(alloc, name, nothing) {
+        Ok(checked) => Ok(checked),
+        Err(bad) => Err(of_file(bad, String::new(alloc))),
     }
 }

@@ -1,5 +1,6 @@
 //! The exports of components, by name.
 
+use crate::groups::{Group, is_seen};
 use cm_match_model::{Candidate, Link};
 use cm_match_serving::{Checked, ExportEntry, Exports};
 use cm_names::TextTable;
@@ -23,9 +24,24 @@ pub(crate) fn providers_of(
     alloc: Global,
     components: &[Checked<'_>],
 ) -> Result<Vec<Provider>, AllocError> {
+    seen_providers(alloc, components, &[])
+}
+
+/// The exports of each of these components that those behind it see, where these bundles are among
+/// the files.
+pub(crate) fn seen_providers(
+    alloc: Global,
+    components: &[Checked<'_>],
+    groups: &[Group<'_>],
+) -> Result<Vec<Provider>, AllocError> {
     let mut providers = Vec::with_capacity(alloc, components.len())?;
     for (number, component) in components.iter().enumerate() {
-        providers.push(Provider::new(alloc, number, component.exports())?)?;
+        let exports = if is_seen(groups, number) {
+            component.exports()
+        } else {
+            &[]
+        };
+        providers.push(Provider::new(alloc, number, exports)?)?;
     }
     Ok(providers)
 }

@@ -35,11 +35,11 @@ enum NamedFile {
 }
 
 /// The components of files with these names that a word names: the one of a file that is called
-/// so, or else the one of a number.
+/// so, or else the one of a number. No word names a component of no name.
 fn called(files: &[&str], word: &str) -> NamedFile {
     let mut found = NamedFile::Nothing;
     for (number, file) in files.iter().enumerate() {
-        if component_name(file) == word {
+        if !file.is_empty() && component_name(file) == word {
             found = match found {
                 NamedFile::Nothing => NamedFile::One(number),
                 NamedFile::One(_) | NamedFile::Several => NamedFile::Several,
@@ -66,6 +66,18 @@ pub(crate) fn serves_nothing(alloc: Global, word: &str, why: &str) -> Fault<'sta
     match format!(in alloc; "--serve {word}: {why}") {
         Ok(text) => Fault::Refused(text),
         Err(_) => Fault::Memory,
+    }
+}
+
+/// Refuses the words of a command for the files of a bundle, which its arguments link: the first
+/// of them serves nothing.
+pub(crate) fn refuse_words(alloc: Global, words: &[&str]) -> Result<(), Fault<'static>> {
+    match words.first() {
+        Some(word) => {
+            let why = "a bundle is linked by its own arguments";
+            Err(serves_nothing(alloc, word, why))
+        }
+        None => Ok(()),
     }
 }
 

@@ -1,7 +1,8 @@
 //! Which exports serve the imports of files, by the words of a command.
 
 use crate::fault::Fault;
-use crate::providers::{Provider, link_to, providers_of};
+use crate::groups::{Group, group_of};
+use crate::providers::{Provider, link_to, seen_providers};
 use crate::serve_words::{ServeWord, no_word, read_word, serves_nothing};
 use cm_hux_words::ServeWords;
 use cm_match_model::{Candidate, Choices, Link};
@@ -14,19 +15,19 @@ use std::alloc::{AllocError, Global};
 ///
 /// A word `IMPORT=PROVIDER` is of each import of this name behind the provider; of several such
 /// words the one of the last provider before the import. A word `IMPORTER/IMPORT=PROVIDER` comes
-/// before these. `Usage` comes where a word names nothing, or two are of one import of one
-/// importer, and `Refused` where one serves nothing.
+/// before these. Without a word an import is linked where one component alone before it has an
+/// export for it. The parts of a bundle among the files are linked as it says. `Usage` comes where
+/// a word names nothing, or two are of one import of one importer, and `Refused` where one serves
+/// nothing.
 pub(crate) fn choices_of(
     alloc: Global,
     files: &[&str],
     components: &[Checked<'_>],
+    groups: &[Group<'_>],
     serve: &ServeWords<'_>,
 ) -> Result<Choices, Fault<'static>> {
     let mut choices = Choices::none(alloc);
-    if serve.words.is_empty() && !serve.nearest {
-        return Ok(choices);
-    }
-    let providers = providers_of(alloc, components)?;
+    let providers = seen_providers(alloc, components, groups)?;
     let mut words = Vec::with_capacity(alloc, serve.words.len())?;
     for word in &serve.words {
         words.push(read_word(alloc, files, word)?)?;
@@ -39,10 +40,22 @@ pub(crate) fn choices_of(
         nearest: serve.nearest,
     };
     for (number, component) in components.iter().enumerate() {
-        choices.links.push(chooser.row(number, component)?)?;
+        let row = match row_inside(groups, number) {
+            Some(row) => row.to_vec(alloc)?,
+            None => chooser.row(number, component)?,
+        };
+        choices.links.push(row)?;
     }
     chooser.refuse_unused()?;
     Ok(choices)
+}
+
+/// The links of a component, if it is a part of a bundle among the files.
+fn row_inside<'g>(groups: &'g [Group<'_>], component: usize) -> Option<&'g Vec<Option<Link>>> {
+    match group_of(groups, component) {
+        Some(group) => group.links_of(component),
+        None => None,
+    }
 }
 
 /// What chooses the links of imports.
@@ -71,7 +84,7 @@ impl Chooser<'_, '_> {
         Ok(row)
     }
 
-    /// The link of an import: by the word that is of it, or the nearest.
+    /// The link of an import: by the word that is of it, or the nearest, or the only one.
     fn link(
         &mut self,
         importer: usize,
@@ -80,7 +93,7 @@ impl Chooser<'_, '_> {
         match self.word_of(importer, import.as_str())? {
             Some(number) => self.link_by(number, importer, import),
             None if self.nearest => Ok(self.nearest(importer, import)?),
-            None => Ok(None),
+            None => Ok(self.only(importer, import)?),
         }
     }
 
@@ -152,6 +165,22 @@ impl Chooser<'_, '_> {
             }
         }
         Ok(None)
+    }
+
+    /// The link to the component before an import that alone has an export for it.
+    fn only(&self, importer: usize, import: &ExternName) -> Result<Option<Link>, AllocError> {
+        let mut found = Candidate::None;
+        for provider in self.providers.iter().take(importer) {
+            let candidate = provider.fitting(self.alloc, import)?;
+            if candidate == Candidate::None {
+                continue;
+            }
+            if found != Candidate::None {
+                return Ok(None);
+            }
+            found = candidate;
+        }
+        Ok(link_to(found))
     }
 
     /// Refuses a word that serves nothing.

@@ -29,6 +29,15 @@ pub fn read_bundle<'a, 'b>(
     }
 }
 
+/// Whether these bytes are a bundle.
+pub(crate) fn is_bundle(alloc: Global, bytes: &[u8]) -> Result<bool, AllocError> {
+    match unbundle(alloc, bytes) {
+        Ok(_) => Ok(true),
+        Err(fault) if fault.reason == BundleReason::Memory => Err(AllocError),
+        Err(_) => Ok(false),
+    }
+}
+
 /// The bundle that these bytes are, if they are one.
 pub(crate) fn bundle_in(alloc: Global, bytes: &[u8]) -> Result<Option<Bundle<'_>>, AllocError> {
     match unbundle(alloc, bytes) {
@@ -98,6 +107,17 @@ pub(crate) fn check_links<'a>(
     } else {
         Err(Trouble::OtherLinks { name })
     }
+}
+
+/// The number of the part whose exports a bundle has, whose bytes these are and which is linked so.
+pub(crate) fn exporter_in<'a>(
+    alloc: Global,
+    name: &'a str,
+    bytes: &[u8],
+    linked: &Linked<'_>,
+) -> Result<usize, Trouble<'a>> {
+    let bundle = read_bundle(alloc, name, bytes)?;
+    Ok(exporter_of(&bundle, linked))
 }
 
 /// The part whose exports a bundle has: where it has none, the first that exports nothing.

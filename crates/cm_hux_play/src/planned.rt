@@ -4,9 +4,16 @@ use cm_hux_drive::MAX_PAGES;
 use cm_hux_drive::files::{
     Checked, Fault, Linked, Loaded, LoadedFiles, ToolFault, signature, signature_rows,
 };
-use cm_live_plan::{Beside, Place, PlacedFile, component_places, write_component};
-use std::alloc::Global;
+use cm_live_plan::{Beside, PlacedFile, component_places, write_component};
+use std::alloc::{AllocError, Global};
 use std::io::Write;
+
+/// Where the file of a component stands: in a file of this name, this many bytes from its start.
+#[derive(Clone, Copy)]
+struct FilePlace<'n> {
+    name: &'n str,
+    at: usize,
+}
 
 /// Writes the plan of each component, in order. Those of a bundle are named by the bundle, and lie
 /// where they stand in it.
@@ -16,45 +23,63 @@ pub(crate) fn write_plan<'a, O: Write>(
     linked: &Linked<'_>,
     out: &mut O,
 ) -> Result<(), Fault<'a>> {
-    if let Some((name, bytes)) = loaded.bundle() {
-        let places = component_places(alloc, bytes)?;
-        return write_parts(alloc, loaded, linked, name, &places, out);
-    }
-    for (file, checked) in loaded.files().iter().zip(linked.components()) {
-        write_planned(alloc, file, file.name, 0, checked, out)?;
+    let places = file_places(alloc, loaded)?;
+    let files = loaded.files().iter().zip(&places);
+    for ((file, place), checked) in files.zip(linked.components()) {
+        write_planned(alloc, file, *place, checked, out)?;
     }
     Ok(())
 }
 
-/// Writes the plan of each component of a bundle, where they stand in the file of this name.
-fn write_parts<'a, O: Write>(
+/// Where the files of the components stand, in order.
+fn file_places<'n>(
     alloc: Global,
-    loaded: &LoadedFiles<'a>,
-    linked: &Linked<'_>,
-    name: &str,
-    places: &[Place],
-    out: &mut O,
-) -> Result<(), Fault<'a>> {
-    let parts = loaded.files().iter().zip(places);
-    for ((file, place), checked) in parts.zip(linked.components()) {
-        write_planned(alloc, file, name, place.at, checked, out)?;
+    loaded: &'n LoadedFiles<'_>,
+) -> Result<Vec<FilePlace<'n>>, AllocError> {
+    let mut places = Vec::with_capacity(alloc, loaded.files().len())?;
+    for file in loaded.files() {
+        places.push(FilePlace {
+            name: file.name,
+            at: 0,
+        })?;
+    }
+    if let Some((name, bytes)) = loaded.bundle() {
+        place_parts(alloc, &mut places, 0, name, bytes)?;
+    }
+    for group in loaded.groups() {
+        place_parts(alloc, &mut places, group.first, group.name, &group.bytes)?;
+    }
+    Ok(places)
+}
+
+/// Puts the parts of a bundle where they stand in it; the first of them has this number.
+fn place_parts<'n>(
+    alloc: Global,
+    places: &mut Vec<FilePlace<'n>>,
+    first: usize,
+    name: &'n str,
+    bytes: &[u8],
+) -> Result<(), AllocError> {
+    for (number, part) in component_places(alloc, bytes)?.iter().enumerate() {
+        if let Some(place) = places.get_mut(first.saturating_add(number)) {
+            *place = FilePlace { name, at: part.at };
+        }
     }
     Ok(())
 }
 
-/// Writes the plan of a component, which stands there in the file of this name.
+/// Writes the plan of a component, whose file stands there.
 fn write_planned<'a, O: Write>(
     alloc: Global,
     loaded: &Loaded<'a>,
-    name: &str,
-    at: usize,
+    place: FilePlace<'_>,
     checked: &Checked<'_>,
     out: &mut O,
 ) -> Result<(), Fault<'a>> {
     let types = type_rows(alloc, loaded)?;
     let file = PlacedFile {
-        name,
-        at,
+        name: place.name,
+        at: place.at,
         bytes: &loaded.bytes,
     };
     let beside = Beside {

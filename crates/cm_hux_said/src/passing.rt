@@ -1,7 +1,7 @@
 //! The values that core values denote in the view of an instance.
 
 use cm_abi_lift::{Passed, lift};
-use cm_abi_model::StringEncoding;
+use cm_abi_model::{AbiFault, StringEncoding};
 use cm_handles::Table;
 use cm_host_values::HostTypes;
 use cm_types::{CoreValue, Func, Value};
@@ -23,7 +23,8 @@ pub(crate) struct Passes {
 impl Row {
     /// The values that core values denote in a memory, where strings have this encoding and each
     /// handle is its index, of the type u32 (CanonicalABI.md, "Lifting and Lowering Values",
-    /// `lift_flat_values`); `None` where they denote none, or there is no memory for them.
+    /// `lift_flat_values`); `None` where they denote none. `AllocError` comes where there is no
+    /// memory for them.
     #[tactic(auto, using(crate::proofs::LiftingLaws::none_lent))]
     pub(crate) fn lift(
         &self,
@@ -31,10 +32,8 @@ impl Row {
         memory: &[u8],
         encoding: StringEncoding,
         slots: &[CoreValue],
-    ) -> Option<Vec<Value>> {
-        let Ok(layout) = self.types.layout(alloc) else {
-            return None;
-        };
+    ) -> Result<Option<Vec<Value>>, AllocError> {
+        let layout = self.types.layout(alloc)?;
         let mut table = Table::new(alloc);
         let passed = Passed {
             way: self.types.way(),
@@ -42,8 +41,9 @@ impl Row {
             slots,
         };
         match lift(alloc, memory, &mut table, encoding, &passed) {
-            Ok(lifted) => Some(lifted.values),
-            Err(_) => None,
+            Ok(lifted) => Ok(Some(lifted.values)),
+            Err(AbiFault::EngineMemory) => Err(AllocError),
+            Err(_) => Ok(None),
         }
     }
 }

@@ -274,7 +274,9 @@ impl<'b, 'a> Watch<'b, 'a> {
         let values = match self.passes.get(actor.instance, called) {
             Some(passes) => {
                 let encoding = called.caller_encoding;
-                passes.params.lift(self.alloc, actor.memory, encoding, args)
+                passes
+                    .params
+                    .lift(self.alloc, actor.memory, encoding, args)?
             }
             None => None,
         };
@@ -304,7 +306,7 @@ impl<'b, 'a> Watch<'b, 'a> {
                 let encoding = called.callee_encoding;
                 passes
                     .results
-                    .lift(self.alloc, actor.memory, encoding, values)
+                    .lift(self.alloc, actor.memory, encoding, values)?
             }
             None => None,
         };

@@ -5,8 +5,8 @@ use crate::words::{Form, Tie, Word};
 /// What the program's own help ends with.
 pub(crate) const ABOUT_ALL: &str =
     "A file named - is standard input. A file may have shims: nested components
-that rename what they are given, which tools write for each exported interface. Where link, play,
-live and stub have one file alone, it may be a bundle: its files are the components then.
+that rename what they are given, which tools write for each exported interface. But for show,
+conform and diff it may be a bundle: its files are components of the set then.
 
 Exit status: 0 done, 1 something was refused, 2 the words are no command, 3 a drive trapped,
 4 a file cannot be read or written, or standard output not be written.

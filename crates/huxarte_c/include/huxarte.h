@@ -542,7 +542,8 @@ HuxVerdict hux_layout(
  * `component` are the bytes of a component file. Where the answer is HUX_KIND_FINE, `parts` and
  * `texts` have as much as there is room for, and `seen` says how much there is: the texts are
  * the bytes of core modules and names, those of each part behind those of the parts before. Else
- * nothing is written. */
+ * the answer is the first fault of the file, as of `hux_check`, or HUX_KIND_MEMORY, and nothing
+ * is written. */
 HuxVerdict hux_plan(
     const uint8_t *component,
     size_t component_length,

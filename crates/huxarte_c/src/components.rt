@@ -117,8 +117,8 @@ pub extern "C" fn hux_layout(
 ///
 /// `component` are the bytes of a component file. Where the answer is `Fine`, `parts` and `texts`
 /// have as much as there is room for, and `seen` says how much there is: the texts are the bytes of
-/// core modules and names, those of each part behind those of the parts before. Else nothing is
-/// written.
+/// core modules and names, those of each part behind those of the parts before. Else the answer is
+/// the first fault of the file, as of `hux_check`, or `Memory`, and nothing is written.
 #[unsafe(no_mangle)]
 pub extern "C" fn hux_plan(
     alloc: Global,

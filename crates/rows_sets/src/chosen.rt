@@ -13,12 +13,11 @@ use std::alloc::Global;
 /// a group or `c` where it goes on with one, and `+` where it is seen or `-` where it is hidden.
 /// LINKS are `-` for none, or words `COMPONENT.IMPORT=PROVIDER.EXPORT`, with commas between.
 pub fn answer(alloc: Global, files: &NamedFiles, words: &[&str], line: &mut Line) {
-    let (row, _) = line.split(words, ":");
     let choices = Choices {
-        places: read_places(alloc, word(row, 1), line),
-        links: read_links(alloc, word(row, 2), line),
+        places: read_places(alloc, word(words, 1), line),
+        links: read_links(alloc, word(words, 2), line),
     };
-    let components = read_components(alloc, files, words_from(row, 3), line);
+    let components = read_components(alloc, files, words_from(words, 3), line);
     let checked = checked_components(alloc, &components, line);
     let linked = link_by(alloc, checked, choices);
     keep_if_memory(line, &linked);
