@@ -9,6 +9,7 @@ mod fault;
 mod fault_objects;
 mod groups;
 mod left_open;
+mod loaded_files;
 mod loading;
 mod making;
 mod providers;
@@ -37,9 +38,8 @@ pub use fault::{Fault, report};
 pub use fault_objects::{fault_object, tell, tell_bytes, tell_fault};
 pub use groups::Group;
 pub use left_open::open_imports;
-pub use loading::{
-    Loaded, LoadedFiles, check_file, kept, load_bytes, load_file, load_files, of_file, read_bytes,
-};
+pub use loaded_files::{LoadedFiles, check_file, load_files};
+pub use loading::{Loaded, kept, load_bytes, load_file, of_file, read_bytes};
 pub use making::{made, write_arguments};
 pub use providers::links_by_name;
 pub use stop::{Stop, told};

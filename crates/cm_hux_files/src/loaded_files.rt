@@ -1,0 +1,417 @@
+//! The files of a command, bundles among them, and the set that they are.
+
+use crate::choosing::choosing_text;
+use crate::fault::Fault;
+use crate::groups::{Group, Inside, add_places, fault_inside, group_of, is_seen, links_behind};
+use crate::loading::{Loaded, kept, load_bytes, of_file, read_bytes};
+use crate::serve_words::{component_name, refuse_words};
+use crate::serving::choices_of;
+use crate::taking::{PART_NAMES, bundle_in, check_links, choices_in, exporter_in, is_bundle};
+use cm_binary_model::Component;
+use cm_hux_words::ServeWords;
+use cm_match::link_by;
+use cm_match_model::{Choices, LinkReason};
+use cm_tool_commands::{
+    Checked, Fault as ToolFault, Files, LinkFault, Linked, MAX_COMPONENTS, checked_of, signature,
+};
+use cm_tool_help_types::link_help;
+use std::alloc::{AllocError, Global};
+
+/// The name that `unbundle` gives the file of this number; none where a set may not have so many
+/// and one more.
+fn part_name(number: usize) -> Option<&'static str> {
+    PART_NAMES.get(number).copied()
+}
+
+/// What a part of a bundle of this name is called among other files.
+fn part_word(alloc: Global, name: &str, number: usize) -> Result<String, AllocError> {
+    let name = component_name(name);
+    format!(in alloc; "{name}/{number}")
+}
+
+/// What some files stand for, in order: those before the first that cannot be read. For a bundle
+/// its parts stand.
+#[derive(Drop)]
+pub struct LoadedFiles<'a> {
+    loaded: Vec<Loaded<'a>>,
+    /// How many components there are.
+    count: usize,
+    /// The bundle whose parts they all are, by its name and its bytes; none where there are other
+    /// files.
+    bundle: Option<(&'a str, Vec<u8>)>,
+    /// The number of the part whose exports it has; none where it has none.
+    exporter: Option<usize>,
+    /// The bundles among other files, in order.
+    groups: Vec<Group<'a>>,
+    /// Which exports serve their imports.
+    serve: ServeWords<'a>,
+}
+
+/// Reads and checks the file of this name: a component has to be valid, and a bundle to be that of
+/// its parts, each valid, as its arguments link them.
+pub fn check_file<'a, F: Files>(
+    alloc: Global,
+    files: &mut F,
+    name: &'a str,
+) -> Result<(), Fault<'a>> {
+    let bytes = read_bytes(alloc, files, name)?;
+    if is_bundle(alloc, &bytes)? {
+        return check_bundle(alloc, name, bytes);
+    }
+    let loaded = load_bytes(alloc, name, bytes)?;
+    let _checked = loaded.check(alloc)?;
+    Ok(())
+}
+
+fn check_bundle<'a>(alloc: Global, name: &'a str, bytes: Vec<u8>) -> Result<(), Fault<'a>> {
+    match LoadedFiles::of_bundle(alloc, name, bytes) {
+        Ok(loaded) => match loaded.inside(alloc, 0) {
+            Ok(_) => Ok(()),
+            Err(fault) => Err(fault_inside(alloc, name, fault)),
+        },
+        Err(fault) => Err(fault_inside(alloc, name, fault)),
+    }
+}
+
+/// These files, which are read in order, up to the first that cannot be, with its fault, where
+/// there is one. Where there are more than a set may have, one more than that is read, and the
+/// others are not. For a bundle its parts stand: under the names that `unbundle` gives them where
+/// it is the only file, and else as `name/1`; then it is linked by itself, and its own fault comes
+/// where it is not the bundle of its parts.
+pub fn load_files<'a, F: Files>(
+    alloc: Global,
+    files: &mut F,
+    names: &[&'a str],
+) -> (LoadedFiles<'a>, Option<Fault<'a>>) {
+    let mut loaded = LoadedFiles::none(alloc, names.len());
+    let read = match names {
+        [name] => loaded.load_alone(alloc, files, name),
+        _ => loaded.load_each(alloc, files, names),
+    };
+    (loaded, read.err())
+}
+
+impl<'a> LoadedFiles<'a> {
+    /// No file yet, of so many.
+    fn none(alloc: Global, count: usize) -> LoadedFiles<'a> {
+        LoadedFiles {
+            loaded: Vec::new(alloc),
+            count,
+            bundle: None,
+            exporter: None,
+            groups: Vec::new(alloc),
+            serve: ServeWords {
+                words: Vec::new(alloc),
+                nearest: false,
+            },
+        }
+    }
+
+    /// The parts of the bundle of this name, whose bytes these are.
+    fn of_bundle(
+        alloc: Global,
+        name: &'a str,
+        bytes: Vec<u8>,
+    ) -> Result<LoadedFiles<'a>, Fault<'a>> {
+        let mut loaded = LoadedFiles::none(alloc, 0);
+        match loaded.load_parts(alloc, &bytes) {
+            Ok(_) => {
+                loaded.bundle = Some((name, bytes));
+                Ok(loaded)
+            }
+            Err(fault) => Err(fault),
+        }
+    }
+
+    fn load_each<F: Files>(
+        &mut self,
+        alloc: Global,
+        files: &mut F,
+        names: &[&'a str],
+    ) -> Result<(), Fault<'a>> {
+        for name in names {
+            if self.loaded.len() > MAX_COMPONENTS {
+                break;
+            }
+            self.load_next(alloc, files, name)?;
+        }
+        Ok(())
+    }
+
+    /// Loads a file behind those that are loaded, or the parts of a bundle.
+    fn load_next<F: Files>(
+        &mut self,
+        alloc: Global,
+        files: &mut F,
+        name: &'a str,
+    ) -> Result<(), Fault<'a>> {
+        let bytes = read_bytes(alloc, files, name)?;
+        if is_bundle(alloc, &bytes)? {
+            return self.load_bundle(alloc, name, bytes);
+        }
+        self.loaded.push(load_bytes(alloc, name, bytes)?)?;
+        Ok(())
+    }
+
+    /// Loads the parts of a bundle, which is linked by itself before.
+    fn load_bundle(
+        &mut self,
+        alloc: Global,
+        name: &'a str,
+        bytes: Vec<u8>,
+    ) -> Result<(), Fault<'a>> {
+        match LoadedFiles::of_bundle(alloc, name, bytes) {
+            Ok(alone) => match alone.inside(alloc, self.loaded.len()) {
+                Ok(inside) => Ok(self.add_parts(alloc, name, alone, inside)?),
+                Err(fault) => Err(fault_inside(alloc, name, fault)),
+            },
+            Err(fault) => Err(fault_inside(alloc, name, fault)),
+        }
+    }
+
+    /// What is inside the bundle whose parts these are, where its first part has this number in
+    /// another set.
+    fn inside(&self, alloc: Global, first: usize) -> Result<Inside, Fault<'a>> {
+        let linked = self.link(alloc, None)?;
+        let exporter = match &self.bundle {
+            Some((name, bytes)) => exporter_in(alloc, name, bytes, &linked)?,
+            None => 0,
+        };
+        Ok(Inside {
+            exporter,
+            links: links_behind(alloc, &linked, first)?,
+        })
+    }
+
+    /// Adds the parts of a bundle of this name, inside of which it is so.
+    fn add_parts(
+        &mut self,
+        alloc: Global,
+        name: &'a str,
+        alone: LoadedFiles<'a>,
+        inside: Inside,
+    ) -> Result<(), AllocError> {
+        let LoadedFiles { loaded, bundle, .. } = alone;
+        let first = self.loaded.len();
+        self.count = self.count.saturating_add(loaded.len()).saturating_sub(1);
+        for (number, mut part) in loaded.into_iter().enumerate() {
+            part.part = Some(part_word(alloc, name, number)?);
+            self.loaded.push(part)?;
+        }
+        if let Some((name, bytes)) = bundle {
+            self.groups.push(Group {
+                name,
+                bytes,
+                first,
+                inside,
+            })?;
+        }
+        Ok(())
+    }
+
+    fn load_alone<F: Files>(
+        &mut self,
+        alloc: Global,
+        files: &mut F,
+        name: &'a str,
+    ) -> Result<(), Fault<'a>> {
+        let bytes = read_bytes(alloc, files, name)?;
+        if self.load_parts(alloc, &bytes)? {
+            self.bundle = Some((name, bytes));
+        } else {
+            self.loaded.push(load_bytes(alloc, name, bytes)?)?;
+        }
+        Ok(())
+    }
+
+    /// Loads the files of a bundle, and answers whether these bytes are one.
+    fn load_parts(&mut self, alloc: Global, bytes: &[u8]) -> Result<bool, Fault<'a>> {
+        let Some(bundle) = bundle_in(alloc, bytes)? else {
+            return Ok(false);
+        };
+        self.count = bundle.parts.len();
+        if let Some(supply) = bundle.exports.first() {
+            self.exporter = Some(supply.export.part);
+        }
+        for (number, part) in bundle.parts.iter().enumerate() {
+            let Some(name) = part_name(number) else {
+                return Ok(true);
+            };
+            let file = part.file.to_vec(alloc)?;
+            self.loaded.push(load_bytes(alloc, name, file)?)?;
+        }
+        Ok(true)
+    }
+
+    /// Has the files linked as these words say.
+    pub fn serve_by(&mut self, alloc: Global, words: &ServeWords<'a>) -> Result<(), AllocError> {
+        self.serve = ServeWords {
+            words: words.words.to_vec(alloc)?,
+            nearest: words.nearest,
+        };
+        Ok(())
+    }
+
+    /// The files, in order.
+    pub fn files(&self) -> &[Loaded<'a>] {
+        &self.loaded
+    }
+
+    /// The bundle whose files they are, by its name and its bytes; none where they are files of
+    /// their own.
+    pub fn bundle(&self) -> Option<(&'a str, &[u8])> {
+        match &self.bundle {
+            Some((name, bytes)) => Some((name, bytes.as_slice())),
+            None => None,
+        }
+    }
+
+    /// The bundles among other files, in order.
+    pub fn groups(&self) -> &[Group<'a>] {
+        &self.groups
+    }
+
+    /// The number of the component whose exports the last file has.
+    pub fn exporter(&self) -> usize {
+        let last = self.loaded.len().saturating_sub(1);
+        match (self.exporter, group_of(&self.groups, last)) {
+            (Some(exporter), _) => exporter,
+            (None, Some(group)) => group.exporter(),
+            (None, None) => last,
+        }
+    }
+
+    /// The bytes of the files, in order.
+    pub fn bytes(&self, alloc: Global) -> Result<Vec<&[u8]>, AllocError> {
+        let mut bytes = Vec::with_capacity(alloc, self.loaded.len())?;
+        for file in &self.loaded {
+            bytes.push(file.bytes.as_slice())?;
+        }
+        Ok(bytes)
+    }
+
+    /// The components of the files, in order.
+    pub fn into_components(self, alloc: Global) -> Result<Vec<Component>, AllocError> {
+        let mut components = Vec::with_capacity(alloc, self.loaded.len())?;
+        for file in self.loaded {
+            let shimmed = file.shimmed;
+            components.push(shimmed.component)?;
+        }
+        Ok(components)
+    }
+
+    /// The components, checked in order. The fault is the first in the order of the files, of which
+    /// `unread` is that of the last.
+    pub fn check<'b>(
+        &'b self,
+        alloc: Global,
+        unread: Option<Fault<'a>>,
+    ) -> Result<Vec<Checked<'b>>, Fault<'a>> {
+        let mut components = Vec::with_capacity(alloc, self.loaded.len())?;
+        for file in &self.loaded {
+            components.push(file.check(alloc)?)?;
+        }
+        match unread {
+            Some(fault) => Err(fault),
+            None => Ok(components),
+        }
+    }
+
+    /// The linked set of the components, which borrows them: checked in order, and then linked.
+    pub fn link<'b>(
+        &'b self,
+        alloc: Global,
+        unread: Option<Fault<'a>>,
+    ) -> Result<Linked<'b>, Fault<'a>> {
+        self.link_checked(alloc, self.check(alloc, unread)?)
+    }
+
+    /// What is chosen of the links of the components: by a bundle, or by words. `Refused` comes
+    /// where there is a word for the files of a bundle.
+    pub fn choices(&self, alloc: Global, components: &[Checked<'_>]) -> Result<Choices, Fault<'a>> {
+        if let Some((name, bytes)) = &self.bundle {
+            refuse_words(alloc, &self.serve.words)?;
+            return Ok(choices_in(alloc, name, bytes, components)?);
+        }
+        let names = self.names(alloc)?;
+        let mut choices = choices_of(alloc, &names, components, &self.groups, &self.serve)?;
+        add_places(&mut choices, &self.groups, components.len())?;
+        Ok(choices)
+    }
+
+    /// The words that name the files of the components, in order. A bundle among other files names
+    /// the part whose exports it has, and nothing its others.
+    fn names(&self, alloc: Global) -> Result<Vec<&str>, AllocError> {
+        let mut names = Vec::with_capacity(alloc, self.loaded.len())?;
+        for (number, file) in self.loaded.iter().enumerate() {
+            names.push(self.name_of(number, file.name))?;
+        }
+        Ok(names)
+    }
+
+    fn name_of<'n>(&'n self, number: usize, name: &'n str) -> &'n str {
+        match group_of(&self.groups, number) {
+            None => name,
+            Some(group) if group.exporter() == number => group.name,
+            Some(_) => "",
+        }
+    }
+
+    /// The linked set of the components, as words say, or as the bundle links them, which has to be
+    /// that of its files as they are linked.
+    pub fn link_checked<'b>(
+        &'b self,
+        alloc: Global,
+        components: Vec<Checked<'b>>,
+    ) -> Result<Linked<'b>, Fault<'a>> {
+        let choices = self.choices(alloc, &components)?;
+        let linked = match link_by(alloc, components, choices) {
+            Ok(linked) => linked,
+            Err(fault) => {
+                return Err(Fault::Tool(ToolFault::Link {
+                    fault,
+                    count: self.count,
+                    tail: kept(alloc, self.tail_of(alloc, fault)),
+                }));
+            }
+        };
+        if let Some((name, bytes)) = &self.bundle {
+            check_links(alloc, name, bytes, &linked)?;
+        }
+        Ok(linked)
+    }
+
+    /// What the components have where they do not link, in words.
+    fn tail_of(&self, alloc: Global, fault: LinkFault) -> Result<String, Fault<'a>> {
+        let Ok(nothing) = Component::new(Vec::new(alloc)) else {
+            return Ok(String::new(alloc));
+        };
+        let mut files = Vec::with_capacity(alloc, self.loaded.len())?;
+        for (number, file) in self.loaded.iter().enumerate() {
+            let component = if is_seen(&self.groups, number) {
+                file.check(alloc)?
+            } else {
+                unseen(alloc, file.name, &nothing)?
+            };
+            files.push((file.word(), signature(alloc, component)?))?;
+        }
+        let mut tail = link_help(alloc, &files, fault)?;
+        if fault.reason == LinkReason::TwoProviders {
+            let names = self.names(alloc)?;
+            tail.push_str(choosing_text(alloc, &self.loaded, &names, fault)?.as_str())?;
+        }
+        Ok(tail)
+    }
+}
+
+/// A component that stands for one of which nothing is seen.
+fn unseen<'a, 'b>(
+    alloc: Global,
+    name: &'a str,
+    nothing: &'b Component,
+) -> Result<Checked<'b>, Fault<'a>> {
+    match checked_of(alloc, name, nothing) {
+        Ok(checked) => Ok(checked),
+        Err(bad) => Err(of_file(bad, String::new(alloc))),
+    }
+}
