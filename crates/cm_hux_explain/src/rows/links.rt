@@ -17,15 +17,15 @@ pub(crate) const ROWS: &str = "\
     link\tLinkReason\t3\tNoProvider\t\
     no export of an earlier component that the import sees has its name, or that of its interface \
     in a compatible version\t\
-    The file that exports it stands behind the one that imports it, is missing, or has another \
-    name or version; or the host is to give it.\t\
+    The file that exports it stands behind the one that imports it, is missing, is hidden in a \
+    bundle, or has another name or version; or the host is to give it.\t\
     Put the provider before the user; for what a host gives, make a stand-in: `hux stub FILE -o \
     host.wasm`.\t\
     Explainer.md, \"Import and Export Definitions\"\n\
     link\tLinkReason\t4\tTwoProviders\t\
     more than one has\t\
     Two files before it export the name, or compatible versions of one interface.\t\
-    Leave one of them out.\t\
+    Say which serves it, in `hux` with `--serve` or `--nearest`, or leave one of them out.\t\
     Explainer.md, \"Import and Export Definitions\"\n\
     link\tLinkReason\t5\tMissingExport\t\
     an instance has nothing under the name of a wanted item\t\
