@@ -15,6 +15,7 @@ use cm_tool_commands::{
     Checked, Fault as ToolFault, Files, LinkFault, Linked, MAX_COMPONENTS, checked_of, signature,
 };
 use cm_tool_help_types::link_help;
+use cm_types_arena::Signature;
 use std::alloc::{AllocError, Global};
 
 /// The name that `unbundle` gives the file of this number; none where a set may not have so many
@@ -383,17 +384,9 @@ impl<'a> LoadedFiles<'a> {
 
     /// What the components have where they do not link, in words.
     fn tail_of(&self, alloc: Global, fault: LinkFault) -> Result<String, Fault<'a>> {
-        let Ok(nothing) = Component::new(Vec::new(alloc)) else {
-            return Ok(String::new(alloc));
-        };
         let mut files = Vec::with_capacity(alloc, self.loaded.len())?;
         for (number, file) in self.loaded.iter().enumerate() {
-            let component = if is_seen(&self.groups, number) {
-                file.check(alloc)?
-            } else {
-                unseen(alloc, file.name, &nothing)?
-            };
-            files.push((file.word(), signature(alloc, component)?))?;
+            files.push((file.word(), self.seen_of(alloc, number, file)?))?;
         }
         let mut tail = link_help(alloc, &files, fault)?;
         if fault.reason == LinkReason::TwoProviders {
@@ -402,16 +395,28 @@ impl<'a> LoadedFiles<'a> {
         }
         Ok(tail)
     }
+
+    /// What others see of the component of this number, which is that of a file.
+    fn seen_of(
+        &self,
+        alloc: Global,
+        number: usize,
+        file: &Loaded<'a>,
+    ) -> Result<Signature, Fault<'a>> {
+        if !is_seen(&self.groups, number) {
+            return nothing(alloc);
+        }
+        Ok(signature(alloc, file.check(alloc)?)?)
+    }
 }
 
-/// A component that stands for one of which nothing is seen.
-fn unseen<'a, 'b>(
-    alloc: Global,
-    name: &'a str,
-    nothing: &'b Component,
-) -> Result<Checked<'b>, Fault<'a>> {
-    match checked_of(alloc, name, nothing) {
-        Ok(checked) => Ok(checked),
+/// The signature of a component that imports and exports nothing.
+fn nothing<'a>(alloc: Global) -> Result<Signature, Fault<'a>> {
+    let Ok(component) = Component::new(Vec::new(alloc)) else {
+        return Err(Fault::Memory);
+    };
+    match checked_of(alloc, "", &component) {
+        Ok(checked) => Ok(signature(alloc, checked)?),
         Err(bad) => Err(of_file(bad, String::new(alloc))),
     }
 }
