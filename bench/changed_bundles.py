@@ -1,7 +1,7 @@
 #!/usr/bin/env python3
 """bench/changed_bundles.py: writes crates/rows_library/data/changed.rows.
 
-Each byte of two bundles is changed in three ways, and of each the answer is worked out by a second
+Each byte of three bundles is changed in three ways, and of each the answer is worked out by a second
 reader of the grammar of crates/cm_bundle/FORM.md, which is written here from that page and
 from Binary.md: what the bytes spell, or the first fault and its place.
 """
@@ -15,6 +15,8 @@ BUNDLES = {
     "one": "0061736d0d000100 0401aa 060100 050401000000 060100 0b0100",
     "two": "0061736d0d000100 0401aa 060100 050401000000 0402bbbb 060b 02 0100000166 050000016a"
            " 050c 01 0001 02 0166 01 00 0169 05 01 0606 01 0100020178 0b07 01 000179 01 01 00",
+    "named": "0061736d0d000100 060100 0b0100 0002 00ff"
+             " 0019 0e 636f6d706f6e656e742d6e616d65 01 08 04 02 00 01 70 01 01 71",
 }
 FLIPS = (0x01, 0x02, 0x80)
 
@@ -144,9 +146,36 @@ class Bundle(Reader):
         if section != 0x06:
             raise Fault(f"UnknownCode at {self.at - 1}")
         said.append(" ".join(["exports", *self.exports()]))
-        if self.at < len(self.data):
-            raise Fault(f"Surplus at {self.at}")
+        customs = []
+        while self.at < len(self.data):
+            self.fixed([0x00], "Surplus")
+            customs.append(self.raw())
+        said += [f"custom {it.hex() or '-'}" for it in customs]
+        said += [it for contents in customs for it in names(contents)]
         return " | ".join(said)
+
+
+class Names(Reader):
+    """The contents of a custom section of names."""
+
+    def read(self):
+        self.fixed(b"\x0ecomponent-name\x01")
+        named = self.sized(self.map)
+        if self.at < len(self.data):
+            raise Fault("bytes behind")
+        return named
+
+    def map(self):
+        self.fixed([0x04])
+        return [f"name {self.number()} {self.text()}" for _ in range(self.number())]
+
+
+def names(contents):
+    """The names that a custom section has: none where it is no section of names."""
+    try:
+        return Names(contents).read()
+    except Fault:
+        return []
 
 
 def answer(data):
@@ -157,7 +186,7 @@ def answer(data):
 
 
 def rows():
-    yield "# Each byte of two bundles is another, in three ways: written by bench/changed_bundles.py, which reads"
+    yield "# Each byte of three bundles is another, in three ways: written by bench/changed_bundles.py, which reads"
     yield "# the grammar a second time."
     for name, text in BUNDLES.items():
         data = bytes.fromhex(text.replace(" ", ""))

@@ -35,10 +35,11 @@ class Refused(Exception):
 class Files:
     """The components of files, in order, and what the files are called. A bundle is called as its
     last part, whose exports it has; its other parts have no name, and are not seen. Links are those
-    inside of bundles, by component and import."""
+    inside of bundles, by component and import, and parts what those are called."""
 
     components: list
     names: list
+    parts: dict = field(default_factory=dict)
     links: dict = field(default_factory=dict)
     inside: set = field(default_factory=set)
 
@@ -47,9 +48,10 @@ class Files:
         return self.components[number].exports if self.names[number] else []
 
 
-def called(names, word):
-    """The number of the file that a word means; none, or more than one, as a text."""
-    found = [number for number, name in enumerate(names) if name and name == word]
+def called(files, word):
+    """The number of the component that a word means; none, or more than one, as a text."""
+    names = files.names
+    found = [at for at, name in enumerate(names) if word in (name or None, files.parts.get(at))]
     if not found and word.isdecimal() and int(word) < len(names):
         found = [int(word)]
     return found[0] if len(found) == 1 else ("several" if found else "none")
@@ -59,7 +61,7 @@ SEVERAL = "more than one file is called so"
 NOBODY = "no file is called as its provider"
 
 
-def read_word(names, word):
+def read_word(files, word):
     """Importer, import, provider and export of a word."""
     left, sign, right = word.partition("=")
     if not sign:
@@ -68,15 +70,15 @@ def read_word(names, word):
         raise Refused(2, word, "nothing stands on one side")
     importer, export = None, None
     if "/" in left:
-        number = called(names, left.split("/", 1)[0])
+        number = called(files, left.split("/", 1)[0])
         if number == "several":
             raise Refused(2, word, SEVERAL)
         if number != "none":
             importer, left = number, left.split("/", 1)[1]
-    number = called(names, right)
+    number = called(files, right)
     if number == "none" and "/" in right:
         right, export = right.split("/", 1)
-        number = called(names, right)
+        number = called(files, right)
     if not isinstance(number, int):
         raise Refused(2, word, SEVERAL if number == "several" else NOBODY)
     return importer, left, number, export
@@ -130,7 +132,7 @@ def choices(files, words, is_nearest):
     if words and all(number in files.inside for number in range(len(files.names))):
         if len([name for name in files.names if name]) == 1:
             raise Refused(1, words[0], "a bundle is linked by its own arguments")
-    read = [read_word(files.names, word) for word in words]
+    read = [read_word(files, word) for word in words]
     used, links = set(), dict(files.links)
     for importer, component in enumerate(files.components):
         for number, (name, _) in enumerate(component.imports):
@@ -190,6 +192,8 @@ def random_word(rng, files):
         number = rng.randrange(len(components) + 1)
     known = number < len(names) and names.count(names[number]) == 1
     right = names[number % len(names)] if known and rng.random() < 0.7 else str(number)
+    if number in files.parts and rng.random() < 0.5:
+        right = files.parts[number]
     left = name
     if rng.random() < 0.4:
         own = names[importer]
@@ -241,7 +245,11 @@ def random_files(rng, hux, folder, components):
         (importer + first, number): (component + first, export)
         for (importer, number), (component, export) in found.items()
     }
-    files.names[first:end] = [""] * (end - first - 1) + [f"{names[end - 1]}.set"]
+    name = f"{names[end - 1]}.set"
+    for at in range(first, end):
+        is_only = names[first:end].count(names[at]) == 1
+        files.parts[at] = f"{name}/{names[at] if is_only else at - first}"
+    files.names[first:end] = [""] * (end - first - 1) + [name]
     return files, [*words[:first], bundle, *words[end:]]
 
 

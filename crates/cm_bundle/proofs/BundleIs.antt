@@ -1,18 +1,21 @@
 -- Bytes that the grammar takes as a bundle are its spelling, and it is a bundle.
-use Rattle.std.proofs.Common.{◌≡◌, ℕ, zero, suc, ◌+◌, ◌<◌, ◌^◌, List, [], ◌∷◌, ◌++◌, length, Ok, sym, ap, subst, ◌∙◌, arith, inl, inr}
+use Rattle.std.proofs.Common.{◌≡◌, ℕ, zero, suc, ◌+◌, ◌<◌, ◌^◌, List, [], ◌∷◌, ◌++◌, length, Ok, refl, sym, ap, subst, ◌∙◌, arith, inl, inr}
 use Rattle.std.proofs.lemmas.List.{append-nil, length-append}
+use Rattle.std.specs.List.{flat_map}
+use Rattle.cm_binary_grammar.specs.Spelling.{blob_spelling}
+use Rattle.cm_binary_grammar.specs.Whole.{SpellsEach}
 use Rattle.cm_bundle.specs.declared.form.TheConstants.{BUNDLE_PREAMBLE, MAX_PARTS}
 use Rattle.cm_bundle.specs.declared.codes.Next.{Next}
 use Rattle.cm_bundle.specs.declared.codes.Next.TheVariants as next
-use Rattle.cm_bundle.specs.Trees.{BundleTree}
-use Rattle.cm_bundle.specs.Spelled.{Spaces, no_spaces, exports_of, all_counted, part_spelled, body_spelled, spelled, after_part, AreSupplied, IsBundle}
-use Rattle.cm_bundle.specs.Grammar.{next_of, behind, body, bundle}
+use Rattle.cm_bundle.specs.Trees.{BodyTree, BundleTree}
+use Rattle.cm_bundle.specs.Spelled.{Spaces, no_spaces, exports_of, all_counted, part_spelled, body_spelled, spelled, after_part, custom_spelled, AreSupplied, IsBundle}
+use Rattle.cm_bundle.specs.Grammar.{next_of, behind, body, custom, customs, bundle}
 use Rattle.cm_bundle.specs.declared.fault.BundleReason.TheVariants as reasons
 use Rattle.cm_bundle.proofs.EitherCode.{either_code}
-use Rattle.cm_bundle.proofs.SpellingIs.{two, last, part_is, exports_are}
+use Rattle.cm_bundle.proofs.SpellingIs.{two, last, bytes_is, part_is, exports_are}
 
 -- What a body is known to be.
-pub record IsBody (s : Spaces) (b : BundleTree) (room : ℕ) (bytes : List ℕ) : Type 0 where
+pub record IsBody (s : Spaces) (b : BodyTree) (room : ℕ) (bytes : List ℕ) : Type 0 where
   pub spelled : bytes ≡ body_spelled s b.parts b.exports
   pub supplied : AreSupplied (length s.places) b.parts b.exports
   pub few : length b.parts < room
@@ -26,7 +29,7 @@ exports_begin b h =
     elim (either_code b 0x04 0x06 next.Part next.Exports next.Exports reasons.UnknownCode h) [ inl p ↦ let q = p.1 in absurd cc | inr p ↦ p.0 ]
 
 -- What stands behind the id of a section, and the id.
-behind_is : (room : ℕ) → ((t : Spaces) (b : BundleTree) (bytes : List ℕ) → (body room t).Spells b bytes → IsBody t b room bytes) → (s : Spaces) (b : BundleTree) (n : Next) (id : ℕ) (rest : List ℕ) → next_of id ≡ Ok n → (behind s (body room) n).Spells b rest → IsBody s b (suc room) (id ∷ rest)
+behind_is : (room : ℕ) → ((t : Spaces) (b : BodyTree) (bytes : List ℕ) → (body room t).Spells b bytes → IsBody t b room bytes) → (s : Spaces) (b : BodyTree) (n : Next) (id : ℕ) (rest : List ℕ) → next_of id ≡ Ok n → (behind s (body room) n).Spells b rest → IsBody s b (suc room) (id ∷ rest)
 behind_is room below s b next.Exports id rest i h =
     let all = exports_are s h.0 h.1 h.3 in
     let bytes : rest ≡ h.1 = h.5 ∙ ap (λ (r : List ℕ). h.1 ++ r) h.4.1 ∙ append-nil h.1 in
@@ -48,7 +51,7 @@ behind_is room below s b next.Part id rest i h =
       few = omega (arith, all.few);
     })
 
-pub body_is : (room : ℕ) (s : Spaces) (b : BundleTree) (bytes : List ℕ) → (body room s).Spells b bytes → IsBody s b room bytes
+pub body_is : (room : ℕ) (s : Spaces) (b : BodyTree) (bytes : List ℕ) → (body room s).Spells b bytes → IsBody s b room bytes
 unfolding body
 body_is zero s b bytes h = absurd h
 body_is (suc room) s b bytes h =
@@ -56,9 +59,30 @@ body_is (suc room) s b bytes h =
     let same : bytes ≡ h.3.0 ∷ h.2 = h.5 ∙ ap (λ (f : List ℕ). f ++ h.2) h.3.1 in
     subst (λ (t : List ℕ). IsBody s b (suc room) t) (sym same) all
 
+-- ---- custom sections
+
+custom_is : (x bytes : List ℕ) → custom.Spells x bytes → bytes ≡ custom_spelled x
+unfolding custom
+custom_is x bytes s = two bytes s.1 s.2 (0x00 ∷ []) (blob_spelling x) s.5 s.3 (bytes_is x s.2 s.4)
+
+each_is : (xs : List (List ℕ)) (bytes : List ℕ) → SpellsEach (λ (s : Unit {0}). custom) (λ s x. s) tt xs bytes → bytes ≡ flat_map custom_spelled xs
+each_is [] bytes h = h
+each_is (x ∷ xs) bytes h = two bytes h.0 h.1 (custom_spelled x) (flat_map custom_spelled xs) h.4 (custom_is x h.0 h.2) (each_is xs h.1 h.3)
+
+customs_are : (xs : List (List ℕ)) (bytes : List ℕ) → customs.Spells xs bytes → bytes ≡ flat_map custom_spelled xs
+unfolding customs
+customs_are xs bytes h = each_is xs bytes h
+
+-- ---- the whole
+
 pub bundle_is : (b : BundleTree) (bytes : List ℕ) → length bytes < 2 ^ 32 → bundle.Spells b bytes → IsBundle b × (bytes ≡ spelled b)
 unfolding bundle spelled
 bundle_is b bytes lt h =
-    let all = body_is (MAX_PARTS + 1) no_spaces b h.2 h.4 in
-    let whole = two bytes h.1 h.2 BUNDLE_PREAMBLE (body_spelled no_spaces b.parts b.exports) h.5 h.3 all.spelled in
-    (record { few = omega (arith, all.few); supplied = all.supplied; short = subst (λ (t : List ℕ). length t < 2 ^ 32) whole lt }, whole)
+    let behind_ = h.4 in
+    let made = behind_.4 in
+    let all = body_is (MAX_PARTS + 1) no_spaces behind_.0 behind_.1 behind_.3 in
+    let front : List ℕ = body_spelled no_spaces behind_.0.parts behind_.0.exports in
+    let sections : List ℕ = flat_map custom_spelled made.0 in
+    let rest : h.2 ≡ front ++ sections = two h.2 behind_.1 behind_.2 front sections behind_.5 all.spelled (customs_are made.0 behind_.2 made.1) in
+    let whole : bytes ≡ BUNDLE_PREAMBLE ++ (front ++ sections) = two bytes h.1 h.2 BUNDLE_PREAMBLE (front ++ sections) h.5 h.3 rest in
+    rw made.2 (record { few = omega (arith, all.few); supplied = all.supplied; short = subst (λ (t : List ℕ). length t < 2 ^ 32) whole lt }, whole)

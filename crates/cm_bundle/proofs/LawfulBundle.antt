@@ -1,18 +1,21 @@
 -- Bundles are read exactly.
-use Rattle.std.proofs.Common.{ℕ, zero, suc, List, [], ◌∷◌, ◌+◌}
+use Rattle.std.proofs.Common.{ℕ, zero, suc, ◌<◌, List, [], ◌∷◌, ◌++◌, ◌+◌, length, ap, arith}
+use Rattle.std.proofs.lemmas.List.{length-append}
 use Rattle.std.specs.Prelude.{◌==◌}
 use Rattle.cm_leb.specs.NumbersWritten.{unsigned_length}
 use Rattle.cm_binary_grammar.specs.Grammar.{number}
 use Rattle.cm_binary_grammar.proofs.Laws.{Lawful, done_lawful, bind_lawful, fail_lawful, code_lawful, number_lawful, raw_lawful, check_lawful, fixed_lawful, times_lawful}
-use Rattle.cm_binary_grammar.proofs.WholeLaws.{LawfulWhole, exactly_lawful, join_lawful}
+use Rattle.cm_binary_grammar.proofs.WholeLaws.{LawfulWhole, build_lawful, exactly_lawful, join_lawful}
+use Rattle.cm_binary_grammar.proofs.EndLaws.{IsNonempty, to_end_lawful}
 use Rattle.cm_bundle.specs.declared.form.TheConstants.{MAX_PARTS}
 use Rattle.cm_bundle.specs.declared.codes.Next.{Next}
 use Rattle.cm_bundle.specs.declared.codes.Next.TheVariants as next
 use Rattle.cm_bundle.specs.declared.fault.BundleReason.TheVariants as reasons
 use Rattle.cm_bundle.specs.declared.spaces.Counts.{Counts}
-use Rattle.cm_bundle.specs.Trees.{ExportTree, BundleTree}
+use Rattle.cm_bundle.specs.Trees.{ExportTree, BodyTree}
 use Rattle.cm_bundle.specs.Spelled.{Spaces, no_spaces, counted}
-use Rattle.cm_bundle.specs.Grammar.{Production, short, this_number, bytes_of, text, sized, part_instance, alias, aliases, supply, supplies, instance_of, exports_of_all, part, exports, behind, body, bundle}
+use Rattle.cm_bundle.specs.Grammar.{Production, short, this_number, bytes_of, text, sized, part_instance, alias, aliases, supply, supplies, instance_of, exports_of_all, part, exports, behind, body, custom, customs, bundle}
+use Rattle.cm_bundle.specs.Names.{part_name, name_map, name_section, name_data}
 use Rattle.cm_bundle.proofs.MeasuredLaws.{measured_lawful}
 
 pub short_lawful : Lawful short
@@ -71,7 +74,7 @@ pub exports_lawful : (s : Spaces) → Lawful (exports s)
 unfolding exports
 exports_lawful s = bind_lawful _ _ (sized_lawful _ (aliases_lawful s.places)) (λ xs. bind_lawful _ _ (fixed_lawful _ _) (λ exported. sized_lawful _ (exports_of_all_lawful s.counts xs)))
 
-behind_lawful : (s : Spaces) (more : Spaces → Production BundleTree) → ((t : Spaces) → Lawful (more t)) → (n : Next) → Lawful (behind s more n)
+behind_lawful : (s : Spaces) (more : Spaces → Production BodyTree) → ((t : Spaces) → Lawful (more t)) → (n : Next) → Lawful (behind s more n)
 behind_lawful s more l next.Exports = bind_lawful _ _ (exports_lawful s) (λ xs. done_lawful _)
 behind_lawful s more l next.Part = bind_lawful _ _ (part_lawful s) (λ p. bind_lawful _ _ (l _) (λ b. done_lawful _))
 
@@ -80,6 +83,36 @@ unfolding body
 body_lawful zero s = fail_lawful _
 body_lawful (suc room) s = bind_lawful _ _ (code_lawful _) (behind_lawful s (body room) (body_lawful room))
 
+pub custom_lawful : Lawful custom
+unfolding custom
+custom_lawful = bind_lawful _ _ (fixed_lawful _ _) (λ id. bytes_lawful)
+
+pub custom_nonempty : IsNonempty custom
+unfolding custom
+custom_nonempty x bytes s = omega (arith, ap length s.5, length-append s.1 s.2, ap length s.3)
+
+pub customs_lawful : LawfulWhole customs
+unfolding customs
+customs_lawful = to_end_lawful (λ (s : Unit {0}). custom) (λ s x. s) (λ s. custom_lawful) (λ s. custom_nonempty) tt
+
 pub bundle_lawful : LawfulWhole bundle
 unfolding bundle
-bundle_lawful = join_lawful _ _ (fixed_lawful _ _) (λ preamble. exactly_lawful _ _ (body_lawful (MAX_PARTS + 1) no_spaces))
+bundle_lawful = join_lawful _ _ (fixed_lawful _ _) (λ preamble. join_lawful _ _ (body_lawful (MAX_PARTS + 1) no_spaces) (λ b. build_lawful _ _ customs_lawful))
+
+-- ---- names
+
+pub part_name_lawful : Lawful part_name
+unfolding part_name
+part_name_lawful = bind_lawful _ _ short_lawful (λ part. bind_lawful _ _ text_lawful (λ name. done_lawful _))
+
+pub name_map_lawful : Lawful name_map
+unfolding name_map
+name_map_lawful = bind_lawful _ _ (fixed_lawful _ _) (λ sort. bind_lawful _ _ short_lawful (λ n. times_lawful _ part_name_lawful n))
+
+pub name_section_lawful : Lawful name_section
+unfolding name_section
+name_section_lawful = bind_lawful _ _ (fixed_lawful _ _) (λ head. sized_lawful _ name_map_lawful)
+
+pub name_data_lawful : LawfulWhole name_data
+unfolding name_data
+name_data_lawful = exactly_lawful _ _ name_section_lawful

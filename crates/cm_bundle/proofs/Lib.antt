@@ -20,3 +20,5 @@ pub mod Counting
 pub mod Earlier
 pub mod Refusing
 pub mod ReadLaws
+pub mod CustomLoop
+pub mod NameLaws

@@ -14,7 +14,7 @@ use Rattle.cm_bundle.specs.declared.codes.Next.TheVariants as next
 use Rattle.cm_bundle.specs.declared.fault.BundleReason.{BundleReason}
 use Rattle.cm_bundle.specs.declared.fault.BundleReason.TheVariants as reasons
 use Rattle.cm_bundle.specs.declared.spaces.Counts.{Counts}
-use Rattle.cm_bundle.specs.Trees.{ExportTree, SupplyTree, PartTree, BundleTree}
+use Rattle.cm_bundle.specs.Trees.{ExportTree, SupplyTree, PartTree, BodyTree}
 use Rattle.cm_bundle.specs.Spelled.{Spaces, counted, all_counted, exports_of, after_part}
 use Rattle.cm_bundle.specs.Grammar.{supply, supplies, part, exports, next_of, body}
 
@@ -56,10 +56,10 @@ supplies_end lead tail c all front e bytes total p so_far =
 -- ---- parts
 
 abbrev pub Bodies : Type 0
-Bodies = Result (BundleTree × List ℕ) (Fault BundleReason)
+Bodies = Result (BodyTree × List ℕ) (Fault BundleReason)
 
--- The bundle with these parts in front.
-abbrev pub behind_parts : List PartTree → BundleTree → BundleTree
+-- The body with these parts in front.
+abbrev pub behind_parts : List PartTree → BodyTree → BodyTree
 behind_parts ps b = record { parts = ps ++ b.parts; exports = b.exports }
 
 abbrev pub with_parts : List PartTree → Bodies → Bodies

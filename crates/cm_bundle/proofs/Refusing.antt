@@ -1,13 +1,13 @@
 -- Why writing stops, from a part to the whole bundle.
-use Rattle.std.proofs.Common.{◌≡◌, ℕ, ◌+◌, ◌≤◌, ◌^◌, List, [], ◌∷◌, ◌++◌, length, Result, Ok, Err, sym, ap, subst, ◌∙◌, arith}
+use Rattle.std.proofs.Common.{◌≡◌, ℕ, ◌+◌, ◌≤◌, ◌^◌, List, [], ◌∷◌, ◌++◌, length, Result, Ok, Err, sym, ap, subst, ◌∙◌, append_assoc, arith}
 use Rattle.std.specs.Prelude.{◌↔◌}
-use Rattle.std.specs.List.{AllByRecursion}
+use Rattle.std.specs.List.{AllByRecursion, flat_map}
 use Rattle.std.proofs.lemmas.List.{length-append}
 use Rattle.cm_bundle.specs.declared.form.TheConstants.{BUNDLE_PREAMBLE}
 use Rattle.cm_bundle.specs.declared.writing.WriteFault.{WriteFault}
 use Rattle.cm_bundle.specs.declared.writing.WriteFault.TheVariants as faults
 use Rattle.cm_bundle.specs.Trees.{SupplyTree, PartTree, BundleTree}
-use Rattle.cm_bundle.specs.Spelled.{Spaces, no_spaces, part_spelled, exports_spelled, body_spelled, spelled, after_part, IsSupply, AreSupplied}
+use Rattle.cm_bundle.specs.Spelled.{Spaces, no_spaces, part_spelled, exports_spelled, body_spelled, spelled, after_part, custom_spelled, IsSupply, AreSupplied}
 use Rattle.cm_bundle.specs.Refusals.{IsRefused, IsWrong, WritesExports, WritesBody}
 
 -- What is wrong with a part is wrong with all of which it is a part.
@@ -38,9 +38,16 @@ pub is_refused : (e : WriteFault) (b : BundleTree) (front : List ℕ) → front 
 unfolding spelled
 is_refused faults.TooManyParts b front p h = absurd h
 is_refused faults.NoSuchPart b front p h = h
-is_refused faults.TooLong b front p h = subst (λ (t : List ℕ). 2 ^ 32 ≤ length (t ++ body_spelled no_spaces b.parts b.exports)) p h
+is_refused faults.TooLong b front p h =
+    let body : List ℕ = body_spelled no_spaces b.parts b.exports in
+    let sections : List ℕ = flat_map custom_spelled b.customs in
+    let long : 2 ^ 32 ≤ length (BUNDLE_PREAMBLE ++ body) = subst (λ (t : List ℕ). 2 ^ 32 ≤ length (t ++ body)) p h in
+    omega (arith, length-append BUNDLE_PREAMBLE body, length-append BUNDLE_PREAMBLE (body ++ sections), length-append body sections, long)
 is_refused faults.Memory b front p h = tt {0}
 
-pub is_whole : (b : BundleTree) (front all : List ℕ) → front ≡ BUNDLE_PREAMBLE → all ≡ front ++ body_spelled no_spaces b.parts b.exports → all ≡ spelled b
+pub is_whole : (b : BundleTree) (front behind all : List ℕ) → front ≡ BUNDLE_PREAMBLE → behind ≡ front ++ body_spelled no_spaces b.parts b.exports → all ≡ behind ++ flat_map custom_spelled b.customs → all ≡ spelled b
 unfolding spelled
-is_whole b front all p h = h ∙ ap (λ (t : List ℕ). t ++ body_spelled no_spaces b.parts b.exports) p
+is_whole b front behind all p q h =
+    let body : List ℕ = body_spelled no_spaces b.parts b.exports in
+    let sections : List ℕ = flat_map custom_spelled b.customs in
+    h ∙ ap (λ (t : List ℕ). t ++ sections) (q ∙ ap (λ (t : List ℕ). t ++ body) p) ∙ append_assoc BUNDLE_PREAMBLE body sections

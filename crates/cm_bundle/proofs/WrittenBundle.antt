@@ -7,7 +7,7 @@ use Rattle.std.proofs.lemmas.List.{append-nil, length-append}
 use Rattle.cm_leb.specs.NumbersWritten.{shortest_unsigned}
 use Rattle.cm_binary_grammar.specs.Grammar.{times}
 use Rattle.cm_binary_grammar.specs.Spelling.{vec_spelling, blob_spelling}
-use Rattle.cm_binary_grammar.proofs.WrittenLaws.{Spelled, done_written, bind_written, last_written, code_written, fixed_written, check_written, raw_written}
+use Rattle.cm_binary_grammar.proofs.WrittenLaws.{Spelled, each_written, done_written, bind_written, last_written, code_written, fixed_written, check_written, raw_written}
 use Rattle.cm_lemmas.proofs.Numbers.{eq_true}
 use Rattle.cm_lemmas.proofs.Lists.{all_spelled, map_length}
 use Rattle.cm_bundle.specs.declared.form.Sort.{Sort}
@@ -15,25 +15,25 @@ use Rattle.cm_bundle.specs.declared.form.Sort.TheVariants as sorts
 use Rattle.cm_bundle.specs.declared.codes.Next.TheVariants as next
 use Rattle.cm_bundle.specs.declared.form.TheConstants.{BUNDLE_PREAMBLE, MAX_PARTS}
 use Rattle.cm_bundle.specs.declared.spaces.Counts.{Counts}
-use Rattle.cm_bundle.specs.Trees.{ExportTree, SupplyTree, PartTree, BundleTree}
-use Rattle.cm_bundle.specs.Spelled.{Spaces, no_spaces, next_index, counted, all_counted, exports_of, sort_code, alias_spelled, supply_spelled, supplies_spelled, instance_spelled, part_spelled, exports_spelled, body_spelled, spelled, after_part, IsSupply, AreSupplied, IsBundle}
-use Rattle.cm_bundle.specs.Grammar.{Production, this_number, bytes_of, text, sized, sort_of, part_instance, alias, aliases, supply, supplies, instance_of, exports_of_all, part, exports, body, bundle}
+use Rattle.cm_bundle.specs.Trees.{ExportTree, SupplyTree, PartTree, BodyTree, BundleTree}
+use Rattle.cm_bundle.specs.Spelled.{Spaces, no_spaces, next_index, counted, all_counted, exports_of, sort_code, alias_spelled, supply_spelled, supplies_spelled, instance_spelled, part_spelled, exports_spelled, body_spelled, spelled, after_part, IsSupply, AreSupplied, IsBundle, custom_spelled}
+use Rattle.cm_bundle.specs.Grammar.{Production, this_number, bytes_of, text, sized, sort_of, part_instance, alias, aliases, supply, supplies, instance_of, exports_of_all, part, exports, body, custom, customs, bundle}
 use Rattle.cm_bundle.proofs.Shortest.{short_written, this_written}
 use Rattle.cm_bundle.proofs.Places.{Ordered, place_found, ordered_push, pushed_below}
 
 -- A length is no more than all of which it is the length.
-blob_longer : (x : List ℕ) → length x ≤ length (blob_spelling x)
+pub blob_longer : (x : List ℕ) → length x ≤ length (blob_spelling x)
 blob_longer x = omega (arith, length-append (shortest_unsigned (length x)) x)
 
 bytes_written : (x : List ℕ) → length (blob_spelling x) < 2 ^ 32 → Spelled bytes_of x (blob_spelling x)
 unfolding bytes_of
 bytes_written x lt = bind_written _ (short_written (length x) (omega (arith, blob_longer x, lt))) (raw_written x) refl
 
-text_written : (x : List ℕ) → is_utf8 x ≡ true → length (blob_spelling x) < 2 ^ 32 → Spelled text x (blob_spelling x)
+pub text_written : (x : List ℕ) → is_utf8 x ≡ true → length (blob_spelling x) < 2 ^ 32 → Spelled text x (blob_spelling x)
 unfolding text
 text_written x utf8 lt = bind_written _ (short_written (length x) (omega (arith, blob_longer x, lt))) (check_written _ _ utf8 (raw_written x)) refl
 
-sized_written : {A : Type 0} (g : Production A) (x : A) (t : List ℕ) → length (blob_spelling t) < 2 ^ 32 → Spelled g x t → Spelled (sized g) x (blob_spelling t)
+pub sized_written : {A : Type 0} (g : Production A) (x : A) (t : List ℕ) → length (blob_spelling t) < 2 ^ 32 → Spelled g x t → Spelled (sized g) x (blob_spelling t)
 sized_written g x t lt s =
     let n = short_written (length t) (omega (arith, blob_longer t, lt)) in
     record { spells = (length t, shortest_unsigned (length t), t, n.spells, (s.spells, eq_true (length t) (length t) refl), refl) }
@@ -285,12 +285,32 @@ body_written (suc room) s (p ∷ ps) ys left r le few more h =
     let rest = body_written room (after_part s p) ps ys (length behind_) (ready_after s p left (length behind_) r (omega (arith, lengths, le)) (omega (arith, few))) (omega arith) (omega (arith, places, few)) (omega (arith, more)) (subst (λ (n : ℕ). AreSupplied n ps ys) (sym places) h.1) in
     bind_written _ (code_written {k = next.Part} 0x04 refl) (bind_written _ one.2 (last_written (λ b. record { parts = p ∷ b.parts; exports = b.exports }) rest) refl) (ap (λ (b : List ℕ). b ++ behind_) one.1)
 
+-- ---- custom sections
+
+-- Sections whose spellings are no longer than a size can tell.
+abbrev AreShort : Unit {0} → List (List ℕ) → Type 0
+AreShort s xs = length (flat_map custom_spelled xs) < 2 ^ 32
+
+custom_step : (s : Unit {0}) (x : List ℕ) (xs : List (List ℕ)) → AreShort s (x ∷ xs) → Spelled custom x (custom_spelled x) × AreShort s xs
+unfolding custom
+custom_step s x xs lt =
+    let lengths = length-append (custom_spelled x) (flat_map custom_spelled xs) in
+    let one : length (custom_spelled x) ≡ suc (length (blob_spelling x)) = refl in
+    (bind_written _ fixed_written (bytes_written x (omega (arith, lengths, one, lt))) refl, omega (arith, lengths, lt))
+
+customs_written : (xs : List (List ℕ)) → length (flat_map custom_spelled xs) < 2 ^ 32 → customs.Spells xs (flat_map custom_spelled xs)
+unfolding customs
+customs_written xs lt = each_written (λ (s : Unit {0}). custom) (λ s x. s) custom_spelled AreShort custom_step tt xs lt
+
 pub bundle_written : (b : BundleTree) → IsBundle b → bundle.Spells b (spelled b)
 unfolding bundle spelled
 bundle_written b h =
     let all : List ℕ = body_spelled no_spaces b.parts b.exports in
-    let lengths : length (BUNDLE_PREAMBLE ++ all) ≡ length BUNDLE_PREAMBLE + length all = length-append BUNDLE_PREAMBLE all in
-    let short_ : length (BUNDLE_PREAMBLE ++ all) < 2 ^ 32 = h.short in
-    let ready : IsReady no_spaces (length all) = record { room = (omega (arith, lengths, short_), omega (arith, lengths, short_)); ordered = λ j k below lt. absurd (omega (arith, lt)); below = λ k lt. absurd (omega (arith, lt)); few = omega arith } in
+    let sections : List ℕ = flat_map custom_spelled b.customs in
+    let lengths = length-append BUNDLE_PREAMBLE (all ++ sections) in
+    let both = length-append all sections in
+    let short_ : length (BUNDLE_PREAMBLE ++ (all ++ sections)) < 2 ^ 32 = h.short in
+    let ready : IsReady no_spaces (length all) = record { room = (omega (arith, lengths, both, short_), omega (arith, lengths, both, short_)); ordered = λ j k below lt. absurd (omega (arith, lt)); below = λ k lt. absurd (omega (arith, lt)); few = omega arith } in
     let body_ = body_written (MAX_PARTS + 1) no_spaces b.parts b.exports (length all) ready (omega arith) (omega (arith, h.few)) (omega (arith, h.few)) h.supplied in
-    (tt, BUNDLE_PREAMBLE, all, refl, body_.spells, refl)
+    let customs_ = customs_written b.customs (omega (arith, lengths, both, short_)) in
+    (tt, BUNDLE_PREAMBLE, all ++ sections, refl, (record { parts = b.parts; exports = b.exports }, all, sections, body_.spells, (b.customs, customs_, refl), refl), refl)

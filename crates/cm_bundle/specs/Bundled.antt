@@ -14,7 +14,8 @@ use Rattle.cm_match_model.specs.Links.{lines_of}
 use Rattle.cm_match.specs.Before.{imports_at}
 use Rattle.cm_bundle.specs.declared.form.Sort.{Sort}
 use Rattle.cm_bundle.specs.declared.form.Sort.TheVariants as sorts
-use Rattle.cm_bundle.specs.Trees.{SupplyTree, PartTree, BundleTree}
+use Rattle.cm_bundle.specs.Names.{name_sections}
+use Rattle.cm_bundle.specs.Trees.{SupplyTree, PartTree, BundleTree, NameTree}
 
 -- ---- sorts (Binary.md, `sort`)
 
@@ -69,9 +70,15 @@ abbrev pub exports_of : List Spaces → ℕ → List SupplyTree
 exports_of set component =
     option_map_or (λ s. map (exported component) s.exports) (slice_get set component) []
 
--- the bundle of a set with these files, which exports what this component does
-abbrev pub bundle_of : LinkSet → List (List ℕ) → ℕ → BundleTree
-bundle_of set files exporter = record {
+-- the bundle of a set with these files, which exports what this component does, with custom
+-- sections of these contents
+abbrev pub bundle_with : LinkSet → List (List ℕ) → ℕ → List (List ℕ) → BundleTree
+bundle_with set files exporter customs = record {
   parts = map (part_of set) (enumerate_from 0 files);
   exports = exports_of set.spaces exporter;
+  customs = customs;
 }
+
+-- the same, with these names for its parts
+abbrev pub bundle_of : LinkSet → List (List ℕ) → ℕ → List NameTree → BundleTree
+bundle_of set files exporter names = bundle_with set files exporter (name_sections names)

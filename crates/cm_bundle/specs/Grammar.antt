@@ -12,7 +12,7 @@ use Rattle.cm_binary_grammar.specs.declared.fault.End.TheVariants as end
 use Rattle.cm_binary_grammar.specs.Faults.{flaw, and_then}
 use Rattle.cm_binary_grammar.specs.Grammar.{Grammar, done, ◌>>=◌, fail, code, number, raw, check}
 use Rattle.cm_binary_grammar.specs.Grammar.{fixed, times}
-use Rattle.cm_binary_grammar.specs.Whole.{Whole, exactly, join}
+use Rattle.cm_binary_grammar.specs.Whole.{Whole, build, join, to_end}
 use Rattle.cm_bundle.specs.declared.form.Sort.{Sort}
 use Rattle.cm_bundle.specs.declared.form.Sort.TheVariants as sorts
 use Rattle.cm_bundle.specs.declared.form.TheConstants.{BUNDLE_PREAMBLE, MAX_PARTS}
@@ -21,7 +21,7 @@ use Rattle.cm_bundle.specs.declared.codes.Next.TheVariants as next
 use Rattle.cm_bundle.specs.declared.fault.BundleReason.{BundleReason}
 use Rattle.cm_bundle.specs.declared.fault.BundleReason.TheVariants as reasons
 use Rattle.cm_bundle.specs.declared.spaces.Counts.{Counts}
-use Rattle.cm_bundle.specs.Trees.{ExportTree, SupplyTree, PartTree, BundleTree}
+use Rattle.cm_bundle.specs.Trees.{ExportTree, SupplyTree, PartTree, BodyTree, BundleTree}
 use Rattle.cm_bundle.specs.Spelled.{Spaces, no_spaces, next_index, counted, after_part}
 use Rattle.cm_bundle.specs.Spelled.{sort_code}
 
@@ -163,7 +163,7 @@ next_of b = if b == 0x04 then Ok next.Part
     else if b == 0x06 then Ok next.Exports else Err reasons.UnknownCode
 
 -- What stands behind the id of a section; more parts may follow a part.
-abbrev pub behind : Spaces → (Spaces → Production BundleTree) → Next → Production BundleTree
+abbrev pub behind : Spaces → (Spaces → Production BodyTree) → Next → Production BodyTree
 behind s more next.Exports = do
   xs ← exports s
   done (record { parts = []; exports = xs })
@@ -173,14 +173,30 @@ behind s more next.Part = do
   done (record { parts = p ∷ b.parts; exports = b.exports })
 
 -- Parts and the exports, which begin in fewer sections than so many.
-unfoldable pub body : ℕ → Spaces → Production BundleTree
+unfoldable pub body : ℕ → Spaces → Production BodyTree
 body zero s = fail reasons.TooManyParts
 body (suc room) s = code next_of >>= behind s (body room)
 
--- The preamble, the parts, the exports, and no byte more.
+-- ---- custom sections
+
+-- A custom section, whatever its contents are (`section_0`).
+unfoldable pub custom : Production (List ℕ)
+custom = do
+  id ← fixed (0x00 ∷ []) reasons.Surplus
+  bytes_of
+
+-- Custom sections to the end.
+unfoldable pub customs : Whole BundleReason (List (List ℕ))
+customs = to_end (λ (s : Unit {0}). custom) (λ s x. s) tt
+
+-- What stands behind the preamble: the parts, the exports, the custom sections.
+abbrev pub behind_preamble : Whole BundleReason BundleTree
+behind_preamble = join (body (MAX_PARTS + 1) no_spaces)
+    (λ b. build (λ cs. record { parts = b.parts; exports = b.exports; customs = cs }) customs)
+
+-- A bundle: all the bytes.
 unfoldable pub bundle : Whole BundleReason BundleTree
-bundle = join (fixed BUNDLE_PREAMBLE reasons.BadPreamble)
-    (λ preamble. exactly reasons.Surplus (body (MAX_PARTS + 1) no_spaces))
+bundle = join (fixed BUNDLE_PREAMBLE reasons.BadPreamble) (λ preamble. behind_preamble)
 
 -- The bytes are no bundle, and this is their first fault, met reading byte after byte.
 abbrev pub FirstFault : List ℕ → ℕ → BundleReason → Type 0

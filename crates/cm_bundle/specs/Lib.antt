@@ -1,4 +1,5 @@
 pub mod Bundled
+pub mod Names
 pub mod BundlingRefusals
 pub mod Serving
 pub mod Texts

@@ -2,7 +2,7 @@
 -- which bundles have one.
 use Rattle.std.specs.Prelude.{◌≡◌, ℕ, ◌+◌, ◌<◌, ◌≤◌, ◌^◌, List, [], ◌∷◌, ◌++◌, length, true}
 use Rattle.std.specs.Prelude.{slice_index, map}
-use Rattle.std.specs.List.{AllByRecursion}
+use Rattle.std.specs.List.{AllByRecursion, flat_map}
 use Rattle.std.specs.Str.{is_utf8}
 use Rattle.cm_leb.specs.NumbersWritten.{shortest_unsigned}
 use Rattle.cm_binary_grammar.specs.Spelling.{vec_spelling, blob_spelling}
@@ -108,9 +108,14 @@ abbrev pub body_spelled : Spaces → List PartTree → List SupplyTree → List 
 body_spelled s [] exports = exports_spelled s exports
 body_spelled s (p ∷ ps) exports = part_spelled s p ++ body_spelled (after_part s p) ps exports
 
--- A bundle: the preamble of components, the parts, the exports.
+-- A custom section (`section_0`).
+abbrev pub custom_spelled : List ℕ → List ℕ
+custom_spelled contents = section_spelled 0x00 contents
+
+-- A bundle: the preamble of components, the parts, the exports, the custom sections.
 unfoldable pub spelled : BundleTree → List ℕ
-spelled b = BUNDLE_PREAMBLE ++ body_spelled no_spaces b.parts b.exports
+spelled b = BUNDLE_PREAMBLE
+    ++ (body_spelled no_spaces b.parts b.exports ++ flat_map custom_spelled b.customs)
 
 -- ---- which bundles have a spelling
 

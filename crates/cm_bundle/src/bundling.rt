@@ -6,16 +6,18 @@ ghost use Rattle.cm_match.specs.Linked.{set_in};
 ghost use Rattle.cm_bundle.specs.Answers.{Accepts, Refuses};
 ghost use Rattle.cm_bundle.specs.Grammar.{FirstFault};
 ghost use Rattle.cm_bundle.specs.Spelled.{IsBundle, spelled};
-ghost use Rattle.cm_bundle.specs.Trees.{bundle_tree};
+ghost use Rattle.cm_bundle.specs.Trees.{bundle_tree, name_tree, NameTree};
 ghost use Rattle.cm_bundle.specs.declared.fault.BundleReason.{BundleReason};
 ghost use Rattle.cm_bundle.specs.declared.fault.BundleReason.TheVariants as reasons;
-ghost use Rattle.cm_bundle.specs.Bundled.{bundle_of};
-ghost use Rattle.cm_bundle.specs.BundlingRefusals.{AreComplete, IsRefused, IsWritten};
+ghost use Rattle.cm_bundle.specs.Bundled.{bundle_of, bundle_with};
+ghost use Rattle.cm_bundle.specs.Names.{names_of};
+ghost use Rattle.cm_bundle.specs.BundlingRefusals.{AreComplete, IsRefused, IsWritten, IsUnwritten};
 ghost use Rattle.cm_bundle.specs.declared.bundling.BundlingFault.TheVariants as faults;
 
-use crate::bundled::bundle_of;
+use crate::bundled::bundle_with;
 use crate::fault::BundleFault;
-use crate::form::Bundle;
+use crate::form::{Bundle, PartName};
+use crate::names::names_section;
 use crate::reading::read;
 use crate::writing::{WriteFault, write};
 use cm_match::Linked;
@@ -49,8 +51,8 @@ impl From<AllocError> for BundlingFault {
 
 /// The bundle of a linked set, as a file: each of these files, which are those of its components in
 /// their order, stands in it byte for byte; each import is given the export that it is linked to,
-/// under the import's name; and the bundle exports what the component `exporter` does, counted
-/// from 0. Each file is copied once.
+/// under the import's name; the bundle exports what the component `exporter` does, counted from 0;
+/// and its parts have these names, where there are any. Each file is copied once.
 ///
 /// `OtherFiles` comes first, then `NoSuchComponent`; no memory is taken before these. `TooLong`
 /// comes where the bundle would have more bytes than a file may have.
@@ -59,30 +61,20 @@ pub fn bundle(
     linked: &Linked<'_>,
     files: &[&[u8]],
     exporter: usize,
+    names: &[PartName<'_>],
 ) -> Result<Vec<u8>, BundlingFault>
     ensures complete { IfOk result (λ _.
         AreComplete (set_in linked.now) (map (λ f. f.now) files.now) exporter) }
-    ensures spelled { IfOk result (λ v. v.items
-        ≡ spelled (bundle_of (set_in linked.now) (map (λ f. f.now) files.now) exporter)) }
-    ensures bundle { IfOk result (λ _.
-        IsBundle (bundle_of (set_in linked.now) (map (λ f. f.now) files.now) exporter)) }
+    ensures spelled { IfOk result (λ v. v.items ≡ spelled (bundle_of (set_in linked.now)
+        (map (λ f. f.now) files.now) exporter (map name_tree names.now))) }
+    ensures bundle { IfOk result (λ _. IsBundle (bundle_of (set_in linked.now)
+        (map (λ f. f.now) files.now) exporter (map name_tree names.now))) }
+    // What is read of its names are the names that it was given.
+    ensures names { IfOk result (λ _. map name_tree names.now ≡ names_of (bundle_of
+        (set_in linked.now) (map (λ f. f.now) files.now) exporter (map name_tree names.now))) }
     ensures refused { IfErr result (λ e.
-        IsRefused e (set_in linked.now) (map (λ f. f.now) files.now) exporter) }
-{
-    write_set(alloc, linked, files, exporter)
-}
-
-/// The same, with what it promises of the file as one fact.
-fn write_set(
-    alloc: Global,
-    linked: &Linked<'_>,
-    files: &[&[u8]],
-    exporter: usize,
-) -> Result<Vec<u8>, BundlingFault>
-    ensures written { IfOk result (λ v.
-        IsWritten (set_in linked.now) (map (λ f. f.now) files.now) exporter v.items) }
-    ensures refused { IfErr result (λ e.
-        IsRefused e (set_in linked.now) (map (λ f. f.now) files.now) exporter) }
+        IsRefused e (set_in linked.now) (map (λ f. f.now) files.now) exporter (bundle_of
+        (set_in linked.now) (map (λ f. f.now) files.now) exporter (map name_tree names.now))) }
 {
     let count = linked.components().len();
     if files.len() != count {
@@ -91,7 +83,49 @@ fn write_set(
     if count <= exporter {
         return Err(BundlingFault::NoSuchComponent);
     }
-    let bundle = bundle_of(alloc, linked, files, exporter)?;
+    write_named(alloc, linked, files, exporter, names)
+}
+
+/// The bundle of a complete set whose parts have these names.
+fn write_named(
+    alloc: Global,
+    linked: &Linked<'_>,
+    files: &[&[u8]],
+    exporter: usize,
+    names: &[PartName<'_>],
+) -> Result<Vec<u8>, BundlingFault>
+    requires { AreComplete (set_in linked.now) (map (λ f. f.now) files.now) exporter }
+    ensures written { IfOk result (λ v. IsWritten (bundle_of (set_in linked.now)
+        (map (λ f. f.now) files.now) exporter (map name_tree names.now)) v.items) }
+    ensures names { IfOk result (λ _. map name_tree names.now ≡ names_of (bundle_of
+        (set_in linked.now) (map (λ f. f.now) files.now) exporter (map name_tree names.now))) }
+    ensures refused { IfErr result (λ e. IsUnwritten e (bundle_of (set_in linked.now)
+        (map (λ f. f.now) files.now) exporter (map name_tree names.now))) }
+{
+    if names.is_empty() {
+        return write_set(alloc, linked, files, exporter, &[]);
+    }
+    let section = names_section(alloc, names)?;
+    write_set(alloc, linked, files, exporter, &[section.as_slice()])
+}
+
+/// The bundle of a complete set with these custom sections.
+fn write_set(
+    alloc: Global,
+    linked: &Linked<'_>,
+    files: &[&[u8]],
+    exporter: usize,
+    customs: &[&[u8]],
+) -> Result<Vec<u8>, BundlingFault>
+    requires { AreComplete (set_in linked.now) (map (λ f. f.now) files.now) exporter }
+    ensures written { IfOk result (λ v. IsWritten (bundle_with (set_in linked.now)
+        (map (λ f. f.now) files.now) exporter (map (λ c. c.now) customs.now)) v.items) }
+    ensures refused { IfErr result (λ e. IsUnwritten e (bundle_with (set_in linked.now)
+        (map (λ f. f.now) files.now) exporter (map (λ c. c.now) customs.now))) }
+{
+    // That the set can be linked is known of it once its components are looked at.
+    let _components = linked.components();
+    let bundle = bundle_with(alloc, linked, files, exporter, customs)?;
     match write(alloc, &bundle) {
         Ok(file) => Ok(file),
         Err(WriteFault::TooLong) => Err(BundlingFault::TooLong),
@@ -101,7 +135,8 @@ fn write_set(
     }
 }
 
-/// Reads a bundle: the files of its set, none copied, what each is given, and what is exported.
+/// Reads a bundle: the files of its set, none copied, what each is given, what is exported, and the
+/// contents of its custom sections. [`part_names`](crate::names::part_names) has the names in them.
 /// [`BundleReason`](crate::fault::BundleReason) says at which byte each fault is.
 pub fn unbundle(alloc: Global, bytes: &[u8]) -> Result<Bundle<'_>, BundleFault>
     // What is read is a bundle, and these bytes are its spelling.
@@ -109,12 +144,12 @@ pub fn unbundle(alloc: Global, bytes: &[u8]) -> Result<Bundle<'_>, BundleFault>
     ensures spelled { IfOk result (λ b. bytes.now ≡ spelled (bundle_tree b)) }
     // A bundle of a set is read as that, unless memory runs out: its files, and its plan by names.
     ensures whole { (set : LinkSet) (files : List (List ℕ)) (exporter : ℕ)
-        → IsBundle (bundle_of set files exporter)
-        → bytes.now ≡ spelled (bundle_of set files exporter)
-        → Accepts result (bundle_of set files exporter) }
+        (names : List NameTree) → IsBundle (bundle_of set files exporter names)
+        → bytes.now ≡ spelled (bundle_of set files exporter names)
+        → Accepts result (bundle_of set files exporter names) }
     ensures files { (set : LinkSet) (files : List (List ℕ)) (exporter : ℕ)
-        → IsBundle (bundle_of set files exporter)
-        → bytes.now ≡ spelled (bundle_of set files exporter)
+        (names : List NameTree) → IsBundle (bundle_of set files exporter names)
+        → bytes.now ≡ spelled (bundle_of set files exporter names)
         → IfOk result (λ b. map (λ p. p.file.now) b.parts.items ≡ files) }
     // A fault is the first one, at its place, and the first fault is given.
     ensures fault { IfErr result

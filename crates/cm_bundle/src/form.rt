@@ -6,12 +6,36 @@ pub const BUNDLE_PREAMBLE: [u8; 8] = [0x00, 0x61, 0x73, 0x6d, 0x0d, 0x00, 0x01, 
 /// The most parts of a bundle, a limit of this project's own.
 pub const MAX_PARTS: usize = 1_000;
 
+/// What a custom section of names begins with (Binary.md, "Name Section"): `component-name` behind
+/// its length, and the id of a subsection of the names of one sort.
+pub const NAMES_HEAD: [u8; 16] = [
+    0x0e, 0x63, 0x6f, 0x6d, 0x70, 0x6f, 0x6e, 0x65, 0x6e, 0x74, 0x2d, 0x6e, 0x61, 0x6d, 0x65, 0x01,
+];
+
 /// A set of components as one.
 #[derive(Drop)]
 pub struct Bundle<'a> {
     pub parts: Vec<Part<'a>>,
     /// What the bundle exports.
     pub exports: Vec<Supply<'a>>,
+    /// The contents of the custom sections behind the exports.
+    pub customs: Vec<&'a [u8]>,
+}
+
+/// A bundle without custom sections.
+#[derive(Drop)]
+pub struct Body<'a> {
+    pub parts: Vec<Part<'a>>,
+    /// What the bundle exports.
+    pub exports: Vec<Supply<'a>>,
+}
+
+/// What a part of a bundle is called.
+#[derive(Clone, Copy)]
+pub struct PartName<'a> {
+    /// The part, counted from 0.
+    pub part: u32,
+    pub name: &'a str,
 }
 
 /// A component of a bundle.

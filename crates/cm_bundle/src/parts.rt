@@ -5,12 +5,12 @@ ghost use Rattle.cm_binary_grammar.specs.Reading.{Reads};
 ghost use Rattle.cm_bundle.specs.Grammar.{part, exports, body};
 ghost use Rattle.cm_bundle.specs.Room.{ReadsPart};
 ghost use Rattle.cm_bundle.specs.Spelled.{Spaces, no_spaces};
-ghost use Rattle.cm_bundle.specs.Trees.{bundle_tree, supply_tree};
+ghost use Rattle.cm_bundle.specs.Trees.{body_tree, supply_tree};
 
 use crate::aliases::read_aliases;
 use crate::codes::Next;
 use crate::fault::BundleReason;
-use crate::form::{Bundle, MAX_PARTS, Part, Sort, Supply};
+use crate::form::{Body, MAX_PARTS, Part, Sort, Supply};
 use crate::numbers::read_bytes;
 use crate::spaces::Counts;
 use crate::supplies::{read_export_section, read_instances};
@@ -64,8 +64,8 @@ fn read_exports<'a>(
 pub fn read_body<'a>(
     alloc: Global,
     bytes: &mut Cursor<'a, BundleReason>,
-) -> Result<Bundle<'a>, ReadError<BundleReason>>
-    ensures read { Reads (body (MAX_PARTS + 1) no_spaces) bundle_tree bytes.old bytes.new result }
+) -> Result<Body<'a>, ReadError<BundleReason>>
+    ensures read { Reads (body (MAX_PARTS + 1) no_spaces) body_tree bytes.old bytes.new result }
     ensures end { bytes.new.end ≡ bytes.old.end }
 {
     let mut counts = Counts {
@@ -79,7 +79,7 @@ pub fn read_body<'a>(
         match next {
             Next::Exports => {
                 let exports = read_exports(alloc, bytes, counts, &places)?;
-                return Ok(Bundle { parts, exports });
+                return Ok(Body { parts, exports });
             }
             Next::Part => {
                 let (part, aliased) = read_part(alloc, bytes, counts, &places)?;

@@ -11,6 +11,7 @@ ghost use Rattle.cm_bundle.specs.Trees.{BundleTree, bundle_tree};
 ghost use Rattle.cm_bundle.specs.declared.fault.BundleReason.{BundleReason};
 ghost use Rattle.cm_bundle.specs.declared.fault.BundleReason.TheVariants as reasons;
 
+use crate::customs::read_customs;
 use crate::fault::{BundleFault, BundleReason};
 use crate::form::{BUNDLE_PREAMBLE, Bundle};
 use crate::parts::read_body;
@@ -68,14 +69,18 @@ fn read_inside(alloc: Global, bytes: &[u8]) -> Result<Bundle<'_>, ReadError<Bund
     read_whole(alloc, bytes)
 }
 
-/// Reads the preamble, the body, and no byte more.
-#[tactic(auto, using(cm_binary_grammar::proofs::WholeLaws::ends_fails), unfolding(crate::specs::Grammar::bundle))]
+/// Reads the preamble, the body, and the custom sections.
+#[tactic(auto, unfolding(crate::specs::Grammar::bundle))]
 fn read_whole(alloc: Global, bytes: &[u8]) -> Result<Bundle<'_>, ReadError<BundleReason>>
     ensures { Gives bundle_tree result (bundle.reads (end.Cut reasons.Truncated) bytes.now) }
 {
     let mut cursor = Cursor::new(bytes, End::Cut(BundleReason::Truncated));
     cursor.fixed(&BUNDLE_PREAMBLE, BundleReason::BadPreamble)?;
-    let bundle = read_body(alloc, &mut cursor)?;
-    cursor.finish(BundleReason::Surplus)?;
-    Ok(bundle)
+    let body = read_body(alloc, &mut cursor)?;
+    let customs = read_customs(alloc, cursor.rest, cursor.end)?;
+    Ok(Bundle {
+        parts: body.parts,
+        exports: body.exports,
+        customs,
+    })
 }

@@ -7,6 +7,7 @@ ghost use Rattle.cm_bundle.specs.Trees.{bundle_tree, part_tree, supply_tree};
 ghost use Rattle.cm_bundle.specs.declared.writing.WriteFault.TheVariants.{Memory};
 
 use crate::checking::are_earlier;
+use crate::customs::write_customs;
 use crate::form::{BUNDLE_PREAMBLE, Bundle, MAX_PARTS, Part, Sort, Supply};
 use crate::sections::{write_aliases, write_exported, write_instance, write_section};
 use crate::spaces::Counts;
@@ -60,6 +61,7 @@ pub fn write(alloc: Global, bundle: &Bundle<'_>) -> Result<Vec<u8>, WriteFault>
     let mut out = Vec::with_capacity(alloc, capacity(&bundle.parts))?;
     out.extend_from_slice(&BUNDLE_PREAMBLE)?;
     write_body(alloc, &mut out, bundle)?;
+    write_customs(&mut out, &bundle.customs)?;
     if out.len() > u32::MAX as usize {
         return Err(WriteFault::TooLong);
     }

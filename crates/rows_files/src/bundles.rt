@@ -41,7 +41,7 @@ fn change(file: &mut Vec<u8>, at: usize, bytes: &[u8]) {
 /// Writes what a file is read as.
 fn write_read(alloc: Global, file: &[u8], line: &mut Line) {
     match read(alloc, file) {
-        Ok(bundle) => write_bundle(&bundle, line),
+        Ok(bundle) => write_bundle(alloc, &bundle, line),
         Err(fault) => write_fault(&fault, line),
     }
 }
@@ -120,7 +120,15 @@ fn write_made<'a, 'b: 'a>(
             _ => line.refuse(),
         }
     }
-    write_file(alloc, &Bundle { parts, exports }, line);
+    write_file(
+        alloc,
+        &Bundle {
+            parts,
+            exports,
+            customs: Vec::new(alloc),
+        },
+        line,
+    );
 }
 
 fn read_supplies<'a>(alloc: Global, words: &[&'a str], line: &mut Line) -> Vec<Supply<'a>> {
@@ -145,6 +153,7 @@ fn empty_parts<'a>(alloc: Global, count: usize, line: &mut Line) -> Bundle<'a> {
     Bundle {
         parts,
         exports: Vec::new(alloc),
+        customs: Vec::new(alloc),
     }
 }
 

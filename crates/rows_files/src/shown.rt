@@ -1,15 +1,38 @@
 //! Bundles in a line of words.
 
-use cm_bundle::{Bundle, BundleFault, BundleReason, Part, PartExport, Sort, Supply, WriteFault};
+use cm_bundle::{
+    Bundle, BundleFault, BundleReason, Part, PartExport, Sort, Supply, WriteFault, part_names,
+};
 use cm_rows::{Line, write_bytes};
+use std::alloc::Global;
 
-/// Writes `part FILE NAME=SORT:PART:EXPORT ..` for each part, and `exports ..`.
-pub fn write_bundle(bundle: &Bundle<'_>, line: &mut Line) {
+/// Writes `part FILE NAME=SORT:PART:EXPORT ..` for each part, `exports ..`, `custom BYTES` for each
+/// custom section, and `name PART NAME` for each name of a part.
+pub fn write_bundle(alloc: Global, bundle: &Bundle<'_>, line: &mut Line) {
     for part in &bundle.parts {
         write_part(part, line);
     }
     line.put("exports");
     write_supplies(&bundle.exports, line);
+    for contents in &bundle.customs {
+        line.put(" | custom ");
+        write_bytes(line, contents);
+    }
+    write_names(alloc, bundle, line);
+}
+
+fn write_names(alloc: Global, bundle: &Bundle<'_>, line: &mut Line) {
+    match part_names(alloc, bundle) {
+        Ok(names) => {
+            for each in &names {
+                line.put(" | name ");
+                line.show(each.part);
+                line.put(" ");
+                line.put(each.name);
+            }
+        }
+        Err(_) => line.fail_if_memory(true),
+    }
 }
 
 fn write_part(part: &Part<'_>, line: &mut Line) {

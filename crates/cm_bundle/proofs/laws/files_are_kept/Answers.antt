@@ -1,5 +1,6 @@
+use Rattle.cm_bundle.specs.Names.{name_sections}
 use Rattle.cm_bundle.proofs.ServedLaws.{files_kept}
 use Rattle.cm_bundle.proofs.laws.files_are_kept.Goals as goal
 
 pub returns : goal.returns
-returns c = files_kept
+returns c = λ set files exporter names. files_kept set files exporter (name_sections names)

@@ -15,19 +15,22 @@ returns-in_err-write_body-clause-refused c =
 
 pub returns-then-len-clause-refused : goal.returns-then-len-clause-refused
 returns-then-len-clause-refused c =
+    let customs = rw c.deref-2.ensures.value at c.in_ok-write_customs.ensures in
     let front = c.in_ok-extend_from_slice.ensures.items ∙ ap (λ (t : List ℕ). t ++ BUNDLE_PREAMBLE) c.in_ok-out.ensures.items in
-    let whole = is_whole (bundle_tree c.args.bundle.now) c.extend_from_slice.new.self.items c.write_body.new.out.items front c.in_ok-write_body.ensures.0 in
+    let whole = is_whole (bundle_tree c.args.bundle.now) c.extend_from_slice.new.self.items c.write_body.new.out.items c.write_customs.new.out.items front c.in_ok-write_body.ensures.0 customs in
     omega (arith, c.if-len.true, c.len-2.ensures, ap length whole)
 
 pub returns-clause-spelled : goal.returns-clause-spelled
 returns-clause-spelled c =
+    let customs = rw c.deref-2.ensures.value at c.in_ok-write_customs.ensures in
     let front = c.in_ok-extend_from_slice.ensures.items ∙ ap (λ (t : List ℕ). t ++ BUNDLE_PREAMBLE) c.in_ok-out.ensures.items in
-    is_whole (bundle_tree c.args.bundle.now) c.extend_from_slice.new.self.items c.write_body.new.out.items front c.in_ok-write_body.ensures.0
+    is_whole (bundle_tree c.args.bundle.now) c.extend_from_slice.new.self.items c.write_body.new.out.items c.write_customs.new.out.items front c.in_ok-write_body.ensures.0 customs
 
 pub returns-clause-bundle : goal.returns-clause-bundle
 returns-clause-bundle c =
+    let customs = rw c.deref-2.ensures.value at c.in_ok-write_customs.ensures in
     let front = c.in_ok-extend_from_slice.ensures.items ∙ ap (λ (t : List ℕ). t ++ BUNDLE_PREAMBLE) c.in_ok-out.ensures.items in
-    let whole = is_whole (bundle_tree c.args.bundle.now) c.extend_from_slice.new.self.items c.write_body.new.out.items front c.in_ok-write_body.ensures.0 in
+    let whole = is_whole (bundle_tree c.args.bundle.now) c.extend_from_slice.new.self.items c.write_body.new.out.items c.write_customs.new.out.items front c.in_ok-write_body.ensures.0 customs in
     let count = map_length part_tree c.args.bundle.now.parts.items in
     record {
       few = omega (arith, c.if-len-gt-MAX_PARTS.false, c.len.ensures, count);

@@ -5,7 +5,7 @@ use Rattle.cm_bundle.specs.Trees.{PartTree, SupplyTree, supply_tree}
 use Rattle.cm_match.specs.Linked.{set_in}
 use Rattle.cm_bundle.proofs.Given.{IsBefore}
 use Rattle.cm_bundle.proofs.Supplying.{AreTexts, are_supplied, are_supplies, exports_before}
-use Rattle.cm_bundle.proofs.bundled.bundle_of.Goals as goal
+use Rattle.cm_bundle.proofs.bundled.bundle_with.Goals as goal
 
 pub returns-clause-supplied : goal.returns-clause-supplied
 returns-clause-supplied c =
