@@ -20,5 +20,5 @@ mod trees;
 pub use cm_machine_guests::Bump;
 pub use fault::ValuesFault;
 pub use host_types::HostTypes;
-pub use lifting::lift_values;
+pub use lifting::{lift_values, lift_values_in};
 pub use lowering::{Lowered, lower_values};

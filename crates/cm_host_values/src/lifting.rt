@@ -11,7 +11,7 @@ ghost use Rattle.cm_abi_model.specs.Views.{View};
 ghost use Rattle.cm_host_values.specs.HostTypes.{types_in, way_in};
 ghost use Rattle.cm_host_values.specs.Indexed.{host_types};
 ghost use Rattle.cm_host_values.specs.Sees.{Sees, host_of};
-ghost use Rattle.cm_host_values.specs.Reading.{IsReadBy};
+ghost use Rattle.cm_host_values.specs.Reading.{IsReadBy, IsReadIn};
 
 use crate::host_types::HostTypes;
 use crate::laws::hosts_see_what_is_denoted;
@@ -43,6 +43,27 @@ pub fn lift_values(
         (e ≡ AbiFault.EngineMemory)
         ⊎ LiftStops (host_of w) (way_in types.now) (types_in types.now) slots.now e) }
 {
+    lift_values_in(alloc, memory, types, StringEncoding::Utf8, slots)
+}
+
+/// The values that core values denote in a memory whose strings have an encoding, as `lift_values`.
+pub fn lift_values_in(
+    alloc: Global,
+    memory: &[u8],
+    types: &HostTypes,
+    encoding: StringEncoding,
+    slots: &[CoreValue],
+) -> Result<Vec<Value>, AbiFault>
+    ensures seen { (w : View) (all : Fields) (v : Val) → IsReadIn encoding w memory.now
+        → types_in types.now ≡ host_types all → Denotes w (way_in types.now) all slots.now v
+        → IfOk result (λ vs. Sees w.table (tuple_of all) v (parts (values_of vs.items))) }
+    ensures denoted { (w : View) → IsReadIn encoding w memory.now → IfOk result (λ vs.
+        Denotes (host_of w) (way_in types.now) (types_in types.now) slots.now
+        (parts (values_of vs.items))) }
+    ensures stops { (w : View) → IsReadIn encoding w memory.now → IfErr result (λ e.
+        (e ≡ AbiFault.EngineMemory)
+        ⊎ LiftStops (host_of w) (way_in types.now) (types_in types.now) slots.now e) }
+{
     hosts_see_what_is_denoted();
     let Ok(layout) = types.layout(alloc) else {
         return Err(AbiFault::EngineMemory);
@@ -53,6 +74,6 @@ pub fn lift_values(
         layout: &layout,
         slots,
     };
-    let lifted = lift(alloc, memory, &mut table, StringEncoding::Utf8, &passed)?;
+    let lifted = lift(alloc, memory, &mut table, encoding, &passed)?;
     Ok(lifted.values)
 }

@@ -1,8 +1,8 @@
 //! Finds the function of another instance that a core function calls, if it calls one.
 
-use crate::bounded::{Bounded, MAX_WORDS};
 use crate::naming::{ImportName, import_name, resource_name};
 use crate::passing::Passes;
+use crate::words::joined;
 use cm_abi_model::StringEncoding;
 use cm_binary_model::CanonOption;
 use cm_match::{Checked, CoreFuncEntry, Linked, MadeFunc};
@@ -111,33 +111,23 @@ impl Called<'_> {
         linked: &Linked<'_>,
         component: u32,
     ) -> Result<String, AllocError> {
-        let mut out = Bounded::new(alloc, MAX_WORDS);
         match self {
-            Called::Func(called) => put_import(&mut out, called.name)?,
-            Called::Drop { number, .. } => put_drop(&mut out, linked, component, *number)?,
-        }
-        Ok(out.into_text())
-    }
-}
-
-fn put_import(out: &mut Bounded, name: ImportName<'_>) -> Result<(), AllocError> {
-    out.put(name.import)?;
-    match name.item {
-        None => Ok(()),
-        Some(item) => {
-            out.put("#")?;
-            out.put(item)
+            Called::Func(called) => match called.name.item {
+                None => joined(alloc, &[called.name.import]),
+                Some(item) => joined(alloc, &[called.name.import, "#", item]),
+            },
+            Called::Drop { number, .. } => drop_name(alloc, linked, component, *number),
         }
     }
 }
 
-/// Puts what tools call the function that drops a resource.
-fn put_drop(
-    out: &mut Bounded,
+/// What tools call the function that drops a resource.
+fn drop_name(
+    alloc: Global,
     linked: &Linked<'_>,
     component: u32,
     number: u64,
-) -> Result<(), AllocError> {
+) -> Result<String, AllocError> {
     let name = match linked.components().get(component as usize) {
         Some(checked) => resource_name(checked, number),
         None => None,
@@ -148,12 +138,8 @@ fn put_drop(
                 import,
                 item: Some(item),
             },
-        ) => {
-            out.put(import)?;
-            out.put("#[resource-drop]")?;
-            out.put(item)
-        }
-        _ => out.put("[resource-drop]resource"),
+        ) => joined(alloc, &[import, "#[resource-drop]", item]),
+        _ => String::from_str(alloc, "[resource-drop]resource"),
     }
 }
 

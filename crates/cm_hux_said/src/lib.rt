@@ -4,7 +4,6 @@
 //! what passed. Values are those of the proved `lift` in the view of who gives them.
 #![tactic(auto)]
 
-mod bounded;
 mod called;
 mod frames;
 mod lines;
@@ -12,11 +11,11 @@ mod messages;
 mod naming;
 mod passing;
 mod watch;
-mod wording;
+mod words;
 
-pub use bounded::MAX_WORDS;
 pub use cm_match::Linked;
 pub use cm_tool_help_texts::is_hidden;
 pub use lines::{Participant, write_message};
 pub use messages::{Message, Spoken, Trapping};
 pub use watch::{Actor, Watch};
+pub use words::MAX_WORDS;

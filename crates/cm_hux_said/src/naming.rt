@@ -1,12 +1,11 @@
 //! The names of functions and resources, as an importing component has them.
 
-use crate::bounded::Bounded;
-use cm_handles::Table;
+use crate::words::front_of_name;
+use cm_hux_values::Resource;
 use cm_match::{Checked, Linked};
-use cm_types::ResourceId;
-use cm_types_arena::{Extern, ExternDesc, Item, Move, moved_resource};
-use cm_validate_items::Resource;
-use std::alloc::AllocError;
+use cm_types_arena::{Extern, ExternDesc, Item};
+use cm_validate_items::Resource as Known;
+use std::alloc::{AllocError, Global};
 
 /// What the handle of a resource is called of which nothing else is known.
 const UNNAMED: &str = "resource";
@@ -47,68 +46,45 @@ pub(crate) fn import_name<'b>(
 /// defines it.
 pub(crate) fn resource_name<'b>(checked: &'b Checked<'_>, number: u64) -> Option<ImportName<'b>> {
     match checked.resource(number)? {
-        Resource::Brought { import, item } => import_name(checked, import, Some(item)),
-        Resource::Defined { .. } => None,
+        Known::Brought { import, item } => import_name(checked, import, Some(item)),
+        Known::Defined { .. } => None,
     }
 }
 
-/// Whose handles are named: an importing component, by its place in the set, how its import counts
-/// resources, and the table of the instance that gives the handles.
-#[derive(Clone, Copy)]
-pub(crate) struct Handles<'s, 'b, 'a> {
-    pub(crate) linked: &'b Linked<'a>,
-    pub(crate) component: u32,
-    pub(crate) by: Option<Move>,
-    pub(crate) table: &'s Table,
-}
-
-impl<'b> Handles<'_, 'b, '_> {
-    /// The name of a resource of the component.
-    fn name(&self, number: u64) -> &'b str {
-        let Some(checked) = self.linked.components().get(self.component as usize) else {
-            return UNNAMED;
-        };
-        match resource_name(checked, number) {
+/// The resources of a component, as it counts them: the names under which it imports them, and what
+/// they are in the set.
+fn resources_of(
+    alloc: Global,
+    linked: &Linked<'_>,
+    component: u32,
+    checked: &Checked<'_>,
+) -> Result<Vec<Resource>, AllocError> {
+    let mut resources = Vec::new(alloc);
+    for number in 0..u64::MAX {
+        if checked.resource(number).is_none() {
+            return Ok(resources);
+        }
+        let name = match resource_name(checked, number) {
             Some(name) => name.item.unwrap_or(UNNAMED),
             None => UNNAMED,
-        }
+        };
+        let name = String::from_str(alloc, front_of_name(name))?;
+        let origin = linked.resource(component, number);
+        resources.push(Resource { name, origin })?;
     }
+    Ok(resources)
+}
 
-    /// The serial number of the handle at an index, which is one of a resource of the component.
-    fn serial(&self, number: u64, index: u64) -> Option<u64> {
-        let origin = self.linked.resource(self.component, number)?;
-        let index = u32::try_from(index).ok()?;
-        match self.table.get(index, origin) {
-            Ok(handle) => Some(handle.serial),
-            Err(_) => None,
-        }
+/// The resources of each component of a linked set.
+pub(crate) fn all_resources(
+    alloc: Global,
+    linked: &Linked<'_>,
+) -> Result<Vec<Vec<Resource>>, AllocError> {
+    let mut all = Vec::with_capacity(alloc, linked.components().len())?;
+    let mut component: u32 = 0;
+    for checked in linked.components() {
+        all.push(resources_of(alloc, linked, component, checked)?)?;
+        component = component.saturating_add(1);
     }
-
-    /// Puts the name of a handle's resource and its serial number, as `file#3`; `file#?` where
-    /// there is no such handle. The resource is one of the type of a function.
-    pub(crate) fn put(
-        &self,
-        out: &mut Bounded,
-        resource: ResourceId,
-        index: u64,
-    ) -> Result<(), AllocError> {
-        self.put_numbered(out, moved_resource(self.by, resource).number, index)
-    }
-
-    /// Puts the name and the serial number of a resource by its number in the component, as `put`.
-    pub(crate) fn put_numbered(
-        &self,
-        out: &mut Bounded,
-        number: u64,
-        index: u64,
-    ) -> Result<(), AllocError> {
-        out.put(self.name(number))?;
-        match self.serial(number, index) {
-            Some(serial) => {
-                out.put("#")?;
-                out.put_number(serial)
-            }
-            None => out.put("#?"),
-        }
-    }
+    Ok(all)
 }

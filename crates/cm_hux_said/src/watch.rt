@@ -1,15 +1,17 @@
 //! Watching a set that plays.
 
-use crate::bounded::{Bounded, MAX_WORDS};
 use crate::called::{AllPasses, Called, CalledFunc, called_by};
 use crate::frames::{Made, Open, Phase};
 use crate::messages::{Message, Spoken, Trapping};
-use crate::naming::Handles;
-use crate::wording::put_value;
+use crate::naming::all_resources;
+use crate::passing::lifted;
+use crate::words::{MAX_WORDS, Words};
 use cm_handles::Table;
+use cm_hux_values::{Naming, Resource, cut};
 use cm_machine_model::{Event, MAX_FRAMES, Move, Trap};
 use cm_match::Linked;
-use cm_types::{CoreValue, TypeNode, Value};
+use cm_types::CoreValue;
+use cm_types_arena::Move as Moved;
 use std::alloc::{AllocError, Global};
 
 /// The instance whose move is next, as it is before the move.
@@ -35,6 +37,8 @@ pub struct Watch<'b, 'a> {
     alloc: Global,
     linked: &'b Linked<'a>,
     passes: AllPasses,
+    /// The resources of each component.
+    resources: Vec<Vec<Resource>>,
     /// The calls that have not returned, the oldest first.
     open: Vec<Open>,
     /// What is on its way, told when it has arrived.
@@ -54,6 +58,7 @@ impl<'b, 'a> Watch<'b, 'a> {
             alloc,
             linked,
             passes: AllPasses::of(alloc, linked)?,
+            resources: all_resources(alloc, linked)?,
             open: Vec::with_capacity(alloc, MAX_FRAMES)?,
             pending: None,
             made: Made::Return,
@@ -274,9 +279,7 @@ impl<'b, 'a> Watch<'b, 'a> {
         let values = match self.passes.get(actor.instance, called) {
             Some(passes) => {
                 let encoding = called.caller_encoding;
-                passes
-                    .params
-                    .lift(self.alloc, actor.memory, encoding, args)?
+                lifted(self.alloc, actor.memory, &passes.params, encoding, args)?
             }
             None => None,
         };
@@ -284,9 +287,9 @@ impl<'b, 'a> Watch<'b, 'a> {
             words.is_cut = true;
             return Ok(words);
         };
-        let handles = self.handles(actor.instance, called, actor.table);
+        let names = self.names(actor.instance, called.by, actor.table);
         for (value, param) in values.iter().zip(called.func.params.iter()) {
-            words.put(self.alloc, value, &param.ty, &handles)?;
+            words.put(self.alloc, value, &param.ty, names)?;
         }
         Ok(words)
     }
@@ -304,9 +307,7 @@ impl<'b, 'a> Watch<'b, 'a> {
         let values = match self.passes.get(caller, called) {
             Some(passes) => {
                 let encoding = called.callee_encoding;
-                passes
-                    .results
-                    .lift(self.alloc, actor.memory, encoding, values)?
+                lifted(self.alloc, actor.memory, &passes.results, encoding, values)?
             }
             None => None,
         };
@@ -314,9 +315,9 @@ impl<'b, 'a> Watch<'b, 'a> {
             words.is_cut = true;
             return Ok(words);
         };
-        let handles = self.handles(caller, called, actor.table);
+        let names = self.names(caller, called.by, actor.table);
         if let (Some(value), Some(tree)) = (values.first(), &called.func.result) {
-            words.put(self.alloc, value, &tree.root, &handles)?;
+            words.put(self.alloc, value, &tree.root, names)?;
         }
         Ok(words)
     }
@@ -329,30 +330,26 @@ impl<'b, 'a> Watch<'b, 'a> {
         args: &[CoreValue],
     ) -> Result<Words, AllocError> {
         let mut words = Words::new(self.alloc);
-        let handles = Handles {
-            linked: self.linked,
-            component: actor.instance,
-            by: None,
-            table: actor.table,
+        let names = self.names(actor.instance, None, actor.table);
+        let text = match args.first() {
+            Some(CoreValue::I32(index)) => names.numbered(number, u64::from(*index))?,
+            _ => String::new(self.alloc),
         };
-        let mut out = Bounded::new(self.alloc, MAX_WORDS);
-        if let Some(CoreValue::I32(index)) = args.first() {
-            handles.put_numbered(&mut out, number, u64::from(*index))?;
-        }
-        words.values.push(out.into_text())?;
+        let said = cut(self.alloc, text, MAX_WORDS)?;
+        words.values.push(said.text)?;
         Ok(words)
     }
 
-    fn handles<'s>(
-        &self,
-        component: u32,
-        called: &CalledFunc<'_>,
-        table: &'s Table,
-    ) -> Handles<'s, 'b, 'a> {
-        Handles {
-            linked: self.linked,
-            component,
-            by: called.by,
+    /// The names of handles in a table, of the resources that a component counts so.
+    fn names<'s>(&'s self, component: u32, by: Option<Moved>, table: &'s Table) -> Naming<'s> {
+        let resources = match self.resources.get(component as usize) {
+            Some(resources) => resources.as_slice(),
+            None => &[],
+        };
+        Naming {
+            alloc: self.alloc,
+            resources,
+            by,
             table,
         }
     }
@@ -415,42 +412,5 @@ impl<'b, 'a> Watch<'b, 'a> {
             Phase::Results => format!(in alloc; "allocation of the result of {name}"),
             Phase::PostReturn => format!(in alloc; "post-return of {name}"),
         }
-    }
-}
-
-/// Values as texts.
-#[derive(Drop)]
-struct Words {
-    values: Vec<String>,
-    room: usize,
-    is_cut: bool,
-}
-
-impl Words {
-    fn new(alloc: Global) -> Words {
-        Words {
-            values: Vec::new(alloc),
-            room: MAX_WORDS,
-            is_cut: false,
-        }
-    }
-
-    /// Puts one more value, where none was cut.
-    fn put(
-        &mut self,
-        alloc: Global,
-        value: &Value,
-        ty: &TypeNode,
-        handles: &Handles<'_, '_, '_>,
-    ) -> Result<(), AllocError> {
-        if self.is_cut {
-            return Ok(());
-        }
-        let mut out = Bounded::new(alloc, self.room);
-        put_value(alloc, &mut out, value, ty, handles)?;
-        self.room = out.room();
-        self.is_cut = out.is_cut();
-        self.values.push(out.into_text())?;
-        Ok(())
     }
 }

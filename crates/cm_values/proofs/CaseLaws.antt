@@ -11,7 +11,7 @@ use Rattle.cm_types.specs.declared.type_trees.TypeNode.{TypeNode}
 use Rattle.cm_types.proofs.Seen.{seen_case}
 use Rattle.cm_types.proofs.TypeTreesLaws.{seen_case_label}
 use Rattle.cm_values.specs.SpelledNames.{case_word, name_spelling}
-use Rattle.cm_values.specs.Spelling.{bare_spelling, bearing_spelling, case_end, spelling}
+use Rattle.cm_values.specs.Spelling.{Words, bare_spelling, bearing_by, case_end, no_words, spelling, spelling_by, usual_by}
 
 -- nothing was written where nothing was to be written
 pub nothing_written : (text part : List ℕ) → part ≡ [] → text ≡ text ++ part
@@ -29,28 +29,33 @@ enum_past [] i le = refl
 enum_past (m ∷ ls) zero le = absurd (omega arith)
 enum_past (m ∷ ls) (suc i) le = enum_past ls i (omega arith)
 
-pub enum_bearing : (ls : List (List ℕ)) (i : ℕ) (v : Val) → bearing_spelling enum_type (plain_from ls) i v ≡ []
-enum_bearing [] i v = refl
-enum_bearing (m ∷ ls) zero v = refl
-enum_bearing (m ∷ ls) (suc i) v = enum_bearing ls i v
+pub enum_bearing : (w : Words) (ls : List (List ℕ)) (i : ℕ) (v : Val) → bearing_by w enum_type (plain_from ls) i v ≡ []
+enum_bearing w [] i v = refl
+enum_bearing w (m ∷ ls) zero v = refl
+enum_bearing w (m ∷ ls) (suc i) v = enum_bearing w ls i v
+
+-- an enum has the text of the notation
+pub enum_alike : (w : Words) (ls : List (List ℕ)) (i : ℕ) (p : Option Val) → usual_by w (cases enum_type (plain_from ls)) (payload_value i p) ≡ spelling (cases enum_type (plain_from ls)) (payload_value i p)
+enum_alike w ls i None = refl
+enum_alike w ls i (Some v) = enum_bearing w ls i v ∙ sym (enum_bearing no_words ls i v)
 
 -- ---- the first of cases, and the others
 
-pub first_case : (k : CasesKind) (l : List ℕ) (o : Option Ty) (cs : Cases) (p : Option Val) → spelling (cases k (case_before l o cs)) (payload_value zero p) ≡ case_end (case_word k l) (option_map spelling o) p
-first_case k l None cs None = refl
-first_case k l None cs (Some v) = refl
-first_case k l (Some t) cs None = refl
-first_case k l (Some t) cs (Some v) = refl
+pub first_case : (w : Words) (k : CasesKind) (l : List ℕ) (o : Option Ty) (cs : Cases) (p : Option Val) → usual_by w (cases k (case_before l o cs)) (payload_value zero p) ≡ case_end (case_word k l) (option_map (spelling_by w) o) p
+first_case w k l None cs None = refl
+first_case w k l None cs (Some v) = refl
+first_case w k l (Some t) cs None = refl
+first_case w k l (Some t) cs (Some v) = refl
 
-pub other_case : (k : CasesKind) (l : List ℕ) (o : Option Ty) (cs : Cases) (i : ℕ) (p : Option Val) → spelling (cases k (case_before l o cs)) (payload_value (suc i) p) ≡ spelling (cases k cs) (payload_value i p)
-other_case k l None cs i None = refl
-other_case k l None cs i (Some v) = refl
-other_case k l (Some t) cs i None = refl
-other_case k l (Some t) cs i (Some v) = refl
+pub other_case : (w : Words) (k : CasesKind) (l : List ℕ) (o : Option Ty) (cs : Cases) (i : ℕ) (p : Option Val) → usual_by w (cases k (case_before l o cs)) (payload_value (suc i) p) ≡ usual_by w (cases k cs) (payload_value i p)
+other_case w k l None cs i None = refl
+other_case w k l None cs i (Some v) = refl
+other_case w k l (Some t) cs i None = refl
+other_case w k l (Some t) cs i (Some v) = refl
 
-no_case : (k : CasesKind) (i : ℕ) (p : Option Val) → spelling (cases k no_cases) (payload_value i p) ≡ []
-no_case k i None = refl
-no_case k i (Some v) = refl
+no_case : (w : Words) (k : CasesKind) (i : ℕ) (p : Option Val) → usual_by w (cases k no_cases) (payload_value i p) ≡ []
+no_case w k i None = refl
+no_case w k i (Some v) = refl
 
 -- ---- variants
 
@@ -60,25 +65,25 @@ label_in c = (out-Case c).label
 abbrev pub payload_in : Case → Option TypeNode
 payload_in c = (out-Case c).payload
 
-mapped_twice : (o : Option TypeNode) → option_map spelling (option_map type_of o) ≡ option_map (λ t. spelling (type_of t)) o
-mapped_twice None = refl
-mapped_twice (Some t) = refl
+mapped_twice : (w : Words) (o : Option TypeNode) → option_map (spelling_by w) (option_map type_of o) ≡ option_map (λ t. spelling_by w (type_of t)) o
+mapped_twice w None = refl
+mapped_twice w (Some t) = refl
 
-here : (c : Case) (cs : Cases) (p : Option Val) → spelling (cases variant_type (case_before (case_of c).0 (case_of c).1 cs)) (payload_value zero p) ≡ case_end (name_spelling (label_in c)) (option_map (λ t. spelling (type_of t)) (payload_in c)) p
-here c cs p =
-    first_case variant_type (case_of c).0 (case_of c).1 cs p
-    ∙ (ap (λ (l : List ℕ). case_end (name_spelling l) (option_map spelling (case_of c).1) p) (seen_case_label c)
-    ∙ ap (λ (f : Option (Val → List ℕ)). case_end (name_spelling (label_in c)) f p) (ap (option_map spelling) (seen_case c) ∙ mapped_twice (payload_in c)))
+here : (w : Words) (c : Case) (cs : Cases) (p : Option Val) → usual_by w (cases variant_type (case_before (case_of c).0 (case_of c).1 cs)) (payload_value zero p) ≡ case_end (name_spelling (label_in c)) (option_map (λ t. spelling_by w (type_of t)) (payload_in c)) p
+here w c cs p =
+    first_case w variant_type (case_of c).0 (case_of c).1 cs p
+    ∙ (ap (λ (l : List ℕ). case_end (name_spelling l) (option_map (spelling_by w) (case_of c).1) p) (seen_case_label c)
+    ∙ ap (λ (f : Option (Val → List ℕ)). case_end (name_spelling (label_in c)) f p) (ap (option_map (spelling_by w)) (seen_case c) ∙ mapped_twice w (payload_in c)))
 
-pub variant_there : (cs : List Case) (i : ℕ) (c : Case) (p : Option Val) → i < length cs → c ≡ get_or cs i c → spelling (cases variant_type (cases_of cs)) (payload_value i p) ≡ case_end (name_spelling (label_in c)) (option_map (λ t. spelling (type_of t)) (payload_in c)) p
-variant_there [] i c p lt is = absurd (omega arith)
-variant_there (d ∷ cs) zero c p lt is = here d (cases_of cs) p ∙ ap (λ (z : Case). case_end (name_spelling (label_in z)) (option_map (λ t. spelling (type_of t)) (payload_in z)) p) (sym is)
-variant_there (d ∷ cs) (suc i) c p lt is = other_case variant_type (case_of d).0 (case_of d).1 (cases_of cs) i p ∙ variant_there cs i c p (omega arith) is
+pub variant_there : (w : Words) (cs : List Case) (i : ℕ) (c : Case) (p : Option Val) → i < length cs → c ≡ get_or cs i c → usual_by w (cases variant_type (cases_of cs)) (payload_value i p) ≡ case_end (name_spelling (label_in c)) (option_map (λ t. spelling_by w (type_of t)) (payload_in c)) p
+variant_there w [] i c p lt is = absurd (omega arith)
+variant_there w (d ∷ cs) zero c p lt is = here w d (cases_of cs) p ∙ ap (λ (z : Case). case_end (name_spelling (label_in z)) (option_map (λ t. spelling_by w (type_of t)) (payload_in z)) p) (sym is)
+variant_there w (d ∷ cs) (suc i) c p lt is = other_case w variant_type (case_of d).0 (case_of d).1 (cases_of cs) i p ∙ variant_there w cs i c p (omega arith) is
 
-pub variant_past : (cs : List Case) (i : ℕ) (p : Option Val) → length cs ≤ i → spelling (cases variant_type (cases_of cs)) (payload_value i p) ≡ []
-variant_past [] i p le = no_case variant_type i p
-variant_past (d ∷ cs) zero p le = absurd (omega arith)
-variant_past (d ∷ cs) (suc i) p le = other_case variant_type (case_of d).0 (case_of d).1 (cases_of cs) i p ∙ variant_past cs i p (omega arith)
+pub variant_past : (w : Words) (cs : List Case) (i : ℕ) (p : Option Val) → length cs ≤ i → usual_by w (cases variant_type (cases_of cs)) (payload_value i p) ≡ []
+variant_past w [] i p le = no_case w variant_type i p
+variant_past w (d ∷ cs) zero p le = absurd (omega arith)
+variant_past w (d ∷ cs) (suc i) p le = other_case w variant_type (case_of d).0 (case_of d).1 (cases_of cs) i p ∙ variant_past w cs i p (omega arith)
 
 -- ---- results
 
@@ -86,8 +91,8 @@ variant_past (d ∷ cs) (suc i) p le = other_case variant_type (case_of d).0 (ca
 abbrev pub result_cases : Option Ty → Option Ty → Cases
 result_cases ok error = case_before (codes "ok") ok (case_before (codes "error") error no_cases)
 
-pub result_ok : (ok error : Option Ty) (p : Option Val) → spelling (cases result_type (result_cases ok error)) (payload_value zero p) ≡ case_end (codes "ok") (option_map spelling ok) p
-result_ok ok error p = first_case result_type (codes "ok") ok (case_before (codes "error") error no_cases) p
+pub result_ok : (w : Words) (ok error : Option Ty) (p : Option Val) → usual_by w (cases result_type (result_cases ok error)) (payload_value zero p) ≡ case_end (codes "ok") (option_map (spelling_by w) ok) p
+result_ok w ok error p = first_case w result_type (codes "ok") ok (case_before (codes "error") error no_cases) p
 
-pub result_error : (ok error : Option Ty) (p : Option Val) → spelling (cases result_type (result_cases ok error)) (payload_value (suc zero) p) ≡ case_end (codes "err") (option_map spelling error) p
-result_error ok error p = other_case result_type (codes "ok") ok (case_before (codes "error") error no_cases) zero p ∙ first_case result_type (codes "error") error no_cases p
+pub result_error : (w : Words) (ok error : Option Ty) (p : Option Val) → usual_by w (cases result_type (result_cases ok error)) (payload_value (suc zero) p) ≡ case_end (codes "err") (option_map (spelling_by w) error) p
+result_error w ok error p = other_case w result_type (codes "ok") ok (case_before (codes "error") error no_cases) zero p ∙ first_case w result_type (codes "error") error no_cases p

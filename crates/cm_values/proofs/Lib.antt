@@ -7,6 +7,7 @@ pub mod SpellValues
 pub mod Typed
 pub mod ListLaws
 pub mod BitLaws
+pub mod FrontLaws
 pub mod CaseLaws
 pub mod Tools
 pub mod GrammarLaws

@@ -1,18 +1,20 @@
 -- Members of lists, one behind the other with commas.
-use Rattle.std.proofs.Common.{◌≡◌, ℕ, zero, suc, ◌+◌, ◌<◌, ◌≤◌, ◌==◌, false, List, [], ◌∷◌, ◌++◌, length, drop, get_or, refl, sym, ap, ◌∙◌, append_assoc, append-nil, add-one}
+use Rattle.std.proofs.Common.{◌≡◌, ℕ, zero, suc, ◌+◌, ◌<◌, ◌≤◌, ◌==◌, false, List, [], ◌∷◌, ◌++◌, length, drop, get_or, Option, refl, sym, ap, ◌∙◌, append_assoc, append-nil, add-one}
 use Rattle.std.specs.Prelude.{codes}
 use Rattle.std.specs.Int.{bit_at}
 use Rattle.std.specs.List.{flat_map}
 use Rattle.cm_types.specs.Types.{Ty, Fields, FieldsKind, field, no_fields, tuple_type}
 use Rattle.cm_types.specs.TypeTrees.{field_of, fields_of, parts_of, type_of}
-use Rattle.cm_types.specs.Values.{Vals, no_vals}
+use Rattle.cm_types.specs.Values.{Val, Vals, no_vals}
 use Rattle.cm_types.specs.ValueTrees.{value_of, values_of}
 use Rattle.cm_types.specs.declared.type_trees.Field.{Field}
 use Rattle.cm_types.specs.declared.type_trees.TypeNode.{TypeNode}
 use Rattle.cm_types.specs.declared.values.Value.{Value}
 use Rattle.cm_types.proofs.ValueTreesLaws.{values_next}
 use Rattle.cm_lemmas.proofs.Lists.{drop_past, rest_from}
-use Rattle.cm_values.specs.Spelling.{comma_before, each, field_spellings, label_spelling, set_labels, spelling, with_commas}
+use Rattle.cm_values.specs.Spelling.{Words, comma_before, each, fields_by, label_spelling, set_labels, spelling_by, with_commas}
+use Rattle.cm_values.specs.Written.{front}
+use Rattle.cm_values.proofs.FrontLaws.{behind}
 
 -- what is left of a list behind so many members
 abbrev pub from_place : ℕ → List (List ℕ) → List ℕ
@@ -35,34 +37,42 @@ listed_next i p ps qs out comma next all e f g h =
 pub listed_end : (i : ℕ) (qs : List (List ℕ)) (out all : List ℕ) → qs ≡ [] → out ++ from_place i qs ≡ all → out ≡ all
 listed_end i qs out all e h = sym (append-nil out) ∙ (ap (λ (z : List ℕ). out ++ z) (sym (ap (from_place i) e ∙ place_end i)) ∙ h)
 
+-- the same as far as a front goes
+pub shown_next : (r : Option ℕ) (i : ℕ) (p : List ℕ) (ps qs : List (List ℕ)) (out comma next all : List ℕ) → qs ≡ p ∷ ps → comma ≡ out ++ comma_before i → front r next ≡ front r (comma ++ p) → front r (out ++ from_place i qs) ≡ front r all → front r (next ++ from_place (i + 1) ps) ≡ front r all
+shown_next r i p ps qs out comma next all e f g h =
+    behind r next (comma ++ p) (from_place (i + 1) ps) g ∙ (ap (front r) (listed_next i p ps qs out comma (comma ++ p) (out ++ from_place i qs) e f refl refl) ∙ h)
+
+pub shown_end : (r : Option ℕ) (i : ℕ) (qs : List (List ℕ)) (out all : List ℕ) → qs ≡ [] → front r (out ++ from_place i qs) ≡ front r all → front r out ≡ front r all
+shown_end r i qs out all e h = ap (front r) (listed_end i qs out (out ++ from_place i qs) e refl) ∙ h
+
 -- ---- values
 
-pub each_next : (t : Ty) (vs : List Value) (i : ℕ) (v : Value) → i < length vs → v ≡ get_or vs i v → each (spelling t) (values_of (drop i vs)) ≡ spelling t (value_of v) ∷ each (spelling t) (values_of (drop (i + 1) vs))
-each_next t vs i v lt is = ap (each (spelling t)) (values_next vs i v lt is)
+pub each_next : (f : Val → List ℕ) (vs : List Value) (i : ℕ) (v : Value) → i < length vs → v ≡ get_or vs i v → each f (values_of (drop i vs)) ≡ f (value_of v) ∷ each f (values_of (drop (i + 1) vs))
+each_next f vs i v lt is = ap (each f) (values_next vs i v lt is)
 
-pub each_end : (t : Ty) (vs : List Value) (i : ℕ) → length vs ≤ i → each (spelling t) (values_of (drop i vs)) ≡ []
-each_end t vs i le = rw (drop_past vs i le) refl
+pub each_end : (f : Val → List ℕ) (vs : List Value) (i : ℕ) → length vs ≤ i → each f (values_of (drop i vs)) ≡ []
+each_end f vs i le = rw (drop_past vs i le) refl
 
 -- ---- fields
 
-pub fields_next : (fs : List Field) (vs : List Value) (i : ℕ) (f : Field) (v : Value) (k : FieldsKind) → i < length fs → f ≡ get_or fs i f → i < length vs → v ≡ get_or vs i v → field_spellings k (fields_of (drop i fs)) (values_of (drop i vs)) ≡ (label_spelling k (field_of f).0 ++ spelling (field_of f).1 (value_of v)) ∷ field_spellings k (fields_of (drop (i + 1) fs)) (values_of (drop (i + 1) vs))
-fields_next fs vs i f v k lt is lt2 is2 = rw (rest_from fs i f lt is, values_next vs i v lt2 is2) refl
+pub fields_next : (w : Words) (fs : List Field) (vs : List Value) (i : ℕ) (f : Field) (v : Value) (k : FieldsKind) → i < length fs → f ≡ get_or fs i f → i < length vs → v ≡ get_or vs i v → fields_by w k (fields_of (drop i fs)) (values_of (drop i vs)) ≡ (label_spelling k (field_of f).0 ++ spelling_by w (field_of f).1 (value_of v)) ∷ fields_by w k (fields_of (drop (i + 1) fs)) (values_of (drop (i + 1) vs))
+fields_next w fs vs i f v k lt is lt2 is2 = rw (rest_from fs i f lt is, values_next vs i v lt2 is2) refl
 
-pub parts_next : (ts : List TypeNode) (vs : List Value) (i : ℕ) (t : TypeNode) (v : Value) → i < length ts → t ≡ get_or ts i t → i < length vs → v ≡ get_or vs i v → field_spellings tuple_type (parts_of (drop i ts)) (values_of (drop i vs)) ≡ spelling (type_of t) (value_of v) ∷ field_spellings tuple_type (parts_of (drop (i + 1) ts)) (values_of (drop (i + 1) vs))
-parts_next ts vs i t v lt is lt2 is2 = rw (rest_from ts i t lt is, values_next vs i v lt2 is2) refl
+pub parts_next : (w : Words) (ts : List TypeNode) (vs : List Value) (i : ℕ) (t : TypeNode) (v : Value) → i < length ts → t ≡ get_or ts i t → i < length vs → v ≡ get_or vs i v → fields_by w tuple_type (parts_of (drop i ts)) (values_of (drop i vs)) ≡ spelling_by w (type_of t) (value_of v) ∷ fields_by w tuple_type (parts_of (drop (i + 1) ts)) (values_of (drop (i + 1) vs))
+parts_next w ts vs i t v lt is lt2 is2 = rw (rest_from ts i t lt is, values_next vs i v lt2 is2) refl
 
-no_values : (k : FieldsKind) (fs : Fields) → field_spellings k fs no_vals ≡ []
-no_values k no_fields = refl
-no_values k (field l t fs) = refl
+no_values : (w : Words) (k : FieldsKind) (fs : Fields) → fields_by w k fs no_vals ≡ []
+no_values w k no_fields = refl
+no_values w k (field l t fs) = refl
 
-pub values_end : (k : FieldsKind) (fs : Fields) (vs : List Value) (i : ℕ) → length vs ≤ i → field_spellings k fs (values_of (drop i vs)) ≡ []
-values_end k fs vs i le = rw (drop_past vs i le) (no_values k fs)
+pub values_end : (w : Words) (k : FieldsKind) (fs : Fields) (vs : List Value) (i : ℕ) → length vs ≤ i → fields_by w k fs (values_of (drop i vs)) ≡ []
+values_end w k fs vs i le = rw (drop_past vs i le) (no_values w k fs)
 
-pub fields_end : (k : FieldsKind) (fs : List Field) (vs : Vals) (i : ℕ) → length fs ≤ i → field_spellings k (fields_of (drop i fs)) vs ≡ []
-fields_end k fs vs i le = rw (drop_past fs i le) refl
+pub fields_end : (w : Words) (k : FieldsKind) (fs : List Field) (vs : Vals) (i : ℕ) → length fs ≤ i → fields_by w k (fields_of (drop i fs)) vs ≡ []
+fields_end w k fs vs i le = rw (drop_past fs i le) refl
 
-pub parts_end : (ts : List TypeNode) (vs : Vals) (i : ℕ) → length ts ≤ i → field_spellings tuple_type (parts_of (drop i ts)) vs ≡ []
-parts_end ts vs i le = rw (drop_past ts i le) refl
+pub parts_end : (w : Words) (ts : List TypeNode) (vs : Vals) (i : ℕ) → length ts ≤ i → fields_by w tuple_type (parts_of (drop i ts)) vs ≡ []
+parts_end w ts vs i le = rw (drop_past ts i le) refl
 
 -- ---- flags
 

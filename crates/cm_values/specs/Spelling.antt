@@ -76,36 +76,65 @@ bare_spelling k (plain l cs) (suc i) = bare_spelling k cs i
 bare_spelling k (carrying l t cs) zero = []
 bare_spelling k (carrying l t cs) (suc i) = bare_spelling k cs i
 
+-- a text in the place of another one, if there is one
+abbrev pub or_text : Option (List ℕ) → List ℕ → List ℕ
+or_text None usual = usual
+or_text (Some other) usual = other
+
+-- the texts that some values have in the place of those of the notation
+abbrev pub Words : Type 0
+Words = Ty → Val → Option (List ℕ)
+
 abbrev mutual
-  -- a value of a type
-  pub spelling : Ty → Val → List ℕ
-  spelling bool (truth b) = truth_spelling b
-  spelling (signed k) (signed_number z) = signed_decimal z
-  spelling (unsigned k) (number n) = decimal n
-  spelling char (scalar c) = quoted 0x27 (c ∷ [])
-  spelling string (text cs) = quoted 0x22 cs
-  spelling (list t) (elements vs) = list_spelling (each (spelling t) vs)
-  spelling (fixed_list t n) (parts vs) = list_spelling (each (spelling t) vs)
-  spelling (fields k fs) (parts vs) = fields_spelling k (field_spellings k fs vs)
-  spelling (cases k cs) (bare i) = bare_spelling k cs i
-  spelling (cases k cs) (bearing i v) = bearing_spelling k cs i v
-  spelling (flags ls) (flag_set n) =
+  -- a value of a type by the notation, if its parts have these texts
+  pub usual_by : Words → Ty → Val → List ℕ
+  usual_by words bool (truth b) = truth_spelling b
+  usual_by words (signed k) (signed_number z) = signed_decimal z
+  usual_by words (unsigned k) (number n) = decimal n
+  usual_by words char (scalar c) = quoted 0x27 (c ∷ [])
+  usual_by words string (text cs) = quoted 0x22 cs
+  usual_by words (list t) (elements vs) =
+      list_spelling (each (λ v. or_text (words t v) (usual_by words t v)) vs)
+  usual_by words (fixed_list t n) (parts vs) =
+      list_spelling (each (λ v. or_text (words t v) (usual_by words t v)) vs)
+  usual_by words (fields k fs) (parts vs) = fields_spelling k (fields_by words k fs vs)
+  usual_by words (cases k cs) (bare i) = bare_spelling k cs i
+  usual_by words (cases k cs) (bearing i v) = bearing_by words k cs i v
+  usual_by words (flags ls) (flag_set n) =
       in_marks (codes "{") (codes "}") (with_commas (set_labels 0 ls n))
-  spelling (own r) (handle h) = handle_spelling h.serial h.rep
-  spelling (borrow r) (handle h) = handle_spelling h.serial h.rep
-  spelling _ _ = []
+  usual_by words (own r) (handle h) = handle_spelling h.serial h.rep
+  usual_by words (borrow r) (handle h) = handle_spelling h.serial h.rep
+  usual_by words _ _ = []
 
   -- fields of a record, with their labels, or of a tuple
-  pub field_spellings : FieldsKind → Fields → Vals → List (List ℕ)
-  field_spellings k (field l t fs) (val v vs) =
-      (label_spelling k l ++ spelling t v) ∷ field_spellings k fs vs
-  field_spellings k _ _ = []
+  pub fields_by : Words → FieldsKind → Fields → Vals → List (List ℕ)
+  fields_by words k (field l t fs) (val v vs) =
+      (label_spelling k l ++ or_text (words t v) (usual_by words t v)) ∷ fields_by words k fs vs
+  fields_by words k _ _ = []
 
   -- the case at this place with its payload
-  pub bearing_spelling : CasesKind → Cases → ℕ → Val → List ℕ
-  bearing_spelling k no_cases i v = []
-  bearing_spelling k (plain l cs) zero v = []
-  bearing_spelling k (plain l cs) (suc i) v = bearing_spelling k cs i v
-  bearing_spelling k (carrying l t cs) zero v =
-      case_end (case_word k l) (Some (spelling t)) (Some v)
-  bearing_spelling k (carrying l t cs) (suc i) v = bearing_spelling k cs i v
+  pub bearing_by : Words → CasesKind → Cases → ℕ → Val → List ℕ
+  bearing_by words k no_cases i v = []
+  bearing_by words k (plain l cs) zero v = []
+  bearing_by words k (plain l cs) (suc i) v = bearing_by words k cs i v
+  bearing_by words k (carrying l t cs) zero v =
+      case_end (case_word k l) (Some (λ u. or_text (words t u) (usual_by words t u))) (Some v)
+  bearing_by words k (carrying l t cs) (suc i) v = bearing_by words k cs i v
+
+-- a value of a type: its text among these, or that of the notation
+abbrev pub spelling_by : Words → Ty → Val → List ℕ
+spelling_by words t = λ v. or_text (words t v) (usual_by words t v)
+
+-- no value has another text than that of the notation
+abbrev pub no_words : Words
+no_words t v = None
+
+-- a value of a type, by the notation alone
+abbrev pub spelling : Ty → Val → List ℕ
+spelling = usual_by no_words
+
+abbrev pub field_spellings : FieldsKind → Fields → Vals → List (List ℕ)
+field_spellings = fields_by no_words
+
+abbrev pub bearing_spelling : CasesKind → Cases → ℕ → Val → List ℕ
+bearing_spelling = bearing_by no_words

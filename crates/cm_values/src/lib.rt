@@ -20,8 +20,10 @@ mod reader;
 pub mod reading_laws;
 mod value_fault;
 mod values;
+mod worded;
 
 pub use parsing::parse;
 pub use print_fault::PrintFault;
-pub use printing::print;
+pub use printing::{print, print_front, quoted_text};
 pub use value_fault::{ValueFault, ValueReason};
+pub use worded::{Plain, Style, Worded};

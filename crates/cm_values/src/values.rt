@@ -8,23 +8,55 @@ ghost use Rattle.cm_types.specs.TypeTrees.{cases_of, field_of, fields_of, parts_
 ghost use Rattle.cm_types.specs.TypeTrees.{shared_payload, type_of};
 ghost use Rattle.cm_values.specs.SpelledNames.{name_spelling};
 ghost use Rattle.cm_types.specs.ValueTrees.{boxed_value, payload_value, value_of, values_of};
-ghost use Rattle.cm_values.specs.Spelling.{case_end, each, field_spellings};
-ghost use Rattle.cm_values.specs.Spelling.{fields_spelling, handle_spelling};
-ghost use Rattle.cm_values.specs.Spelling.{in_marks, label_spelling, list_spelling, spelling};
-ghost use Rattle.cm_values.specs.Spelling.{with_commas};
-ghost use Rattle.cm_values.specs.Written.{Writes};
+ghost use Rattle.cm_values.specs.Spelling.{case_end, each, fields_by, fields_spelling};
+ghost use Rattle.cm_values.specs.Spelling.{handle_spelling, in_marks, label_spelling};
+ghost use Rattle.cm_values.specs.Spelling.{list_spelling};
+ghost use Rattle.cm_values.specs.Spelling.{spelling, spelling_by, usual_by, with_commas};
+ghost use Rattle.cm_values.specs.Written.{Shows, Writes};
 
 use crate::printed_flags::put_flags;
 use crate::putting::{put, put_comma, put_name, put_number, put_signed};
 use crate::quotes::{put_char, put_text};
+use crate::worded::{Style, Worded};
 use cm_types::{Case, Field, Label, TypeNode, Value};
 use std::alloc::AllocError;
 use std::rc::Rc;
 
-/// Adds a value of a type; nothing where it has not the type.
+/// Adds a value of a type, as far as there is room: its own words, or those of the notation, of
+/// which there are none where it has not the type.
 #[cycle(printing)]
-pub fn put_value(out: &mut String, value: &Value, ty: &TypeNode) -> Result<(), AllocError>
-    ensures { Writes (spelling (type_of ty.now) (value_of value.now)) out.old out.new result }
+#[tactic(auto, using(crate::proofs::FrontLaws::front_laws))]
+pub fn put_value<W: Worded>(
+    out: &mut String,
+    value: &Value,
+    ty: &TypeNode,
+    style: &Style<W>,
+) -> Result<(), AllocError>
+    ensures { Shows style.now.room
+        (spelling_by (W.words style.now.worded) (type_of ty.now) (value_of value.now))
+        out.old out.new result }
+{
+    if style.is_full(out) {
+        return Ok(());
+    }
+    match style.worded.word(value, ty)? {
+        Some(text) => put(out, text.as_str()),
+        None => put_usual(out, value, ty, style),
+    }
+}
+
+/// Adds a value of a type that has no words of its own.
+#[cycle(printing)]
+#[tactic(auto, using(crate::proofs::FrontLaws::front_laws))]
+fn put_usual<W: Worded>(
+    out: &mut String,
+    value: &Value,
+    ty: &TypeNode,
+    style: &Style<W>,
+) -> Result<(), AllocError>
+    ensures { Shows style.now.room
+        (usual_by (W.words style.now.worded) (type_of ty.now) (value_of value.now))
+        out.old out.new result }
 {
     match (ty, value) {
         (TypeNode::Bool, Value::Bool(truth)) => put(out, if *truth { "true" } else { "false" }),
@@ -34,24 +66,24 @@ pub fn put_value(out: &mut String, value: &Value, ty: &TypeNode) -> Result<(), A
             put_number(out, *number),
         (TypeNode::Char, Value::Char(character)) => put_char(out, *character),
         (TypeNode::String, Value::String(text)) => put_text(out, text.as_str()),
-        (TypeNode::List(element), Value::List(values)) => put_list(out, values, element),
+        (TypeNode::List(element), Value::List(values)) => put_list(out, values, element, style),
         (TypeNode::FixedList { element, .. }, Value::Fields(values)) => {
-            put_list(out, values, element)
+            put_list(out, values, element, style)
         }
-        (TypeNode::Record(fields), Value::Fields(values)) => put_record(out, values, fields),
-        (TypeNode::Tuple(parts), Value::Fields(values)) => put_tuple(out, values, parts),
+        (TypeNode::Record(fields), Value::Fields(values)) => put_record(out, values, fields, style),
+        (TypeNode::Tuple(parts), Value::Fields(values)) => put_tuple(out, values, parts, style),
         (TypeNode::Variant(variants), Value::Case { index, payload }) => {
-            put_variant(out, *index, payload, variants)
+            put_variant(out, *index, payload, variants, style)
         }
         (TypeNode::Enum(labels), Value::Case { index, payload }) => {
             put_enum(out, *index, payload, labels)
         }
         (TypeNode::Option(some), Value::Case { index, payload }) => {
-            put_option(out, *index, payload, some)
+            put_option(out, *index, payload, some, style)
         }
         (TypeNode::Result { ok, error }, Value::Case { index, payload }) => match *index {
-            0 => put_shared_case(out, "ok", payload, ok),
-            1 => put_shared_case(out, "err", payload, error),
+            0 => put_shared_case(out, "ok", payload, ok, style),
+            1 => put_shared_case(out, "err", payload, error, style),
             _ => Ok(()),
         },
         (TypeNode::Flags(labels), Value::Flags(bits)) => put_flags(out, labels, *bits),
@@ -74,45 +106,69 @@ fn put_handle(out: &mut String, serial: u64, rep: u32) -> Result<(), AllocError>
 
 /// Adds a list.
 #[cycle(printing)]
-fn put_list(out: &mut String, values: &[Value], element: &TypeNode) -> Result<(), AllocError>
-    ensures { Writes (list_spelling (each (spelling (type_of element.now)) (values_of values.now)))
+#[tactic(auto, using(crate::proofs::FrontLaws::front_laws))]
+fn put_list<W: Worded>(
+    out: &mut String,
+    values: &[Value],
+    element: &TypeNode,
+    style: &Style<W>,
+) -> Result<(), AllocError>
+    ensures { Shows style.now.room (list_spelling (each
+        (spelling_by (W.words style.now.worded) (type_of element.now)) (values_of values.now)))
         out.old out.new result }
 {
     put(out, "[")?;
-    put_items(out, values, element)?;
+    put_items(out, values, element, style)?;
     put(out, "]")
 }
 
 /// Adds values, with commas between them.
 #[cycle(printing)]
-fn put_items(out: &mut String, values: &[Value], element: &TypeNode) -> Result<(), AllocError>
-    ensures { Writes (with_commas (each (spelling (type_of element.now)) (values_of values.now)))
+fn put_items<W: Worded>(
+    out: &mut String,
+    values: &[Value],
+    element: &TypeNode,
+    style: &Style<W>,
+) -> Result<(), AllocError>
+    ensures { Shows style.now.room (with_commas (each
+        (spelling_by (W.words style.now.worded) (type_of element.now)) (values_of values.now)))
         out.old out.new result }
 {
     for (index, value) in values.iter().enumerate() {
         put_comma(out, index)?;
-        put_value(out, value, element)?;
+        put_value(out, value, element, style)?;
     }
     Ok(())
 }
 
 /// Adds a record.
 #[cycle(printing)]
-fn put_record(out: &mut String, values: &[Value], fields: &[Field]) -> Result<(), AllocError>
-    ensures { Writes (fields_spelling record_type
-        (field_spellings record_type (fields_of fields.now) (values_of values.now)))
+#[tactic(auto, using(crate::proofs::FrontLaws::front_laws))]
+fn put_record<W: Worded>(
+    out: &mut String,
+    values: &[Value],
+    fields: &[Field],
+    style: &Style<W>,
+) -> Result<(), AllocError>
+    ensures { Shows style.now.room (fields_spelling record_type (fields_by
+        (W.words style.now.worded) record_type (fields_of fields.now) (values_of values.now)))
         out.old out.new result }
 {
     put(out, "{")?;
-    put_fields(out, values, fields)?;
+    put_fields(out, values, fields, style)?;
     put(out, "}")
 }
 
 /// Adds fields with their labels, with commas between them.
 #[cycle(printing)]
-fn put_fields(out: &mut String, values: &[Value], fields: &[Field]) -> Result<(), AllocError>
-    ensures { Writes (with_commas
-        (field_spellings record_type (fields_of fields.now) (values_of values.now)))
+fn put_fields<W: Worded>(
+    out: &mut String,
+    values: &[Value],
+    fields: &[Field],
+    style: &Style<W>,
+) -> Result<(), AllocError>
+    ensures { Shows style.now.room (with_commas (fields_by
+        (W.words style.now.worded) record_type (fields_of fields.now) (values_of values.now)))
         out.old out.new result }
 {
     for (index, field) in fields.iter().enumerate() {
@@ -120,39 +176,57 @@ fn put_fields(out: &mut String, values: &[Value], fields: &[Field]) -> Result<()
             return Ok(());
         };
         put_comma(out, index)?;
-        put_field(out, value, field)?;
+        put_field(out, value, field, style)?;
     }
     Ok(())
 }
 
 /// Adds a field with its label.
 #[cycle(printing)]
-fn put_field(out: &mut String, value: &Value, field: &Field) -> Result<(), AllocError>
-    ensures { Writes (label_spelling record_type (field_of field.now).0
-        ++ spelling (field_of field.now).1 (value_of value.now)) out.old out.new result }
+#[tactic(auto, using(crate::proofs::FrontLaws::front_laws))]
+fn put_field<W: Worded>(
+    out: &mut String,
+    value: &Value,
+    field: &Field,
+    style: &Style<W>,
+) -> Result<(), AllocError>
+    ensures { Shows style.now.room (label_spelling record_type (field_of field.now).0
+        ++ spelling_by (W.words style.now.worded) (field_of field.now).1 (value_of value.now))
+        out.old out.new result }
 {
     put_name(out, field.label.as_str())?;
     put(out, ": ")?;
-    put_value(out, value, &field.ty)
+    put_value(out, value, &field.ty, style)
 }
 
 /// Adds a tuple.
 #[cycle(printing)]
-fn put_tuple(out: &mut String, values: &[Value], parts: &[TypeNode]) -> Result<(), AllocError>
-    ensures { Writes (fields_spelling tuple_type
-        (field_spellings tuple_type (parts_of parts.now) (values_of values.now)))
+#[tactic(auto, using(crate::proofs::FrontLaws::front_laws))]
+fn put_tuple<W: Worded>(
+    out: &mut String,
+    values: &[Value],
+    parts: &[TypeNode],
+    style: &Style<W>,
+) -> Result<(), AllocError>
+    ensures { Shows style.now.room (fields_spelling tuple_type (fields_by
+        (W.words style.now.worded) tuple_type (parts_of parts.now) (values_of values.now)))
         out.old out.new result }
 {
     put(out, "(")?;
-    put_parts(out, values, parts)?;
+    put_parts(out, values, parts, style)?;
     put(out, ")")
 }
 
 /// Adds the fields of a tuple, with commas between them.
 #[cycle(printing)]
-fn put_parts(out: &mut String, values: &[Value], parts: &[TypeNode]) -> Result<(), AllocError>
-    ensures { Writes (with_commas
-        (field_spellings tuple_type (parts_of parts.now) (values_of values.now)))
+fn put_parts<W: Worded>(
+    out: &mut String,
+    values: &[Value],
+    parts: &[TypeNode],
+    style: &Style<W>,
+) -> Result<(), AllocError>
+    ensures { Shows style.now.room (with_commas (fields_by
+        (W.words style.now.worded) tuple_type (parts_of parts.now) (values_of values.now)))
         out.old out.new result }
 {
     for (index, part) in parts.iter().enumerate() {
@@ -160,45 +234,49 @@ fn put_parts(out: &mut String, values: &[Value], parts: &[TypeNode]) -> Result<(
             return Ok(());
         };
         put_comma(out, index)?;
-        put_value(out, value, part)?;
+        put_value(out, value, part, style)?;
     }
     Ok(())
 }
 
 /// Adds the case of a variant.
 #[cycle(printing)]
-fn put_variant(
+fn put_variant<W: Worded>(
     out: &mut String,
     index: u32,
     payload: &Option<Box<Value>>,
     variants: &[Case],
+    style: &Style<W>,
 ) -> Result<(), AllocError>
-    ensures { Writes (spelling (cases variant_type (cases_of variants.now))
+    ensures { Shows style.now.room (usual_by (W.words style.now.worded)
+        (cases variant_type (cases_of variants.now))
         (payload_value index (boxed_value payload.now))) out.old out.new result }
 {
     match variants.get(index as usize) {
         None => Ok(()),
-        Some(case) => put_case(out, case.label.as_str(), payload, &case.payload),
+        Some(case) => put_case(out, case.label.as_str(), payload, &case.payload, style),
     }
 }
 
 /// Adds the name of a case, and its payload, if it carries one.
 #[cycle(printing)]
-fn put_case(
+#[tactic(auto, using(crate::proofs::FrontLaws::front_laws))]
+fn put_case<W: Worded>(
     out: &mut String,
     label: &str,
     payload: &Option<Box<Value>>,
     ty: &Option<TypeNode>,
+    style: &Style<W>,
 ) -> Result<(), AllocError>
-    ensures { Writes (case_end (name_spelling label.now)
-        (option_map (λ t. spelling (type_of t)) ty.now) (boxed_value payload.now))
-        out.old out.new result }
+    ensures { Shows style.now.room (case_end (name_spelling label.now)
+        (option_map (λ t. spelling_by (W.words style.now.worded) (type_of t)) ty.now)
+        (boxed_value payload.now)) out.old out.new result }
 {
     match (ty, payload) {
         (None, None) => put_name(out, label),
         (Some(ty), Some(value)) => {
             put_name(out, label)?;
-            put_payload(out, value, ty)
+            put_payload(out, value, ty, style)
         }
         _ => Ok(()),
     }
@@ -206,12 +284,19 @@ fn put_case(
 
 /// Adds a payload.
 #[cycle(printing)]
-fn put_payload(out: &mut String, value: &Value, ty: &TypeNode) -> Result<(), AllocError>
-    ensures { Writes (in_marks (codes "(") (codes ")")
-        (spelling (type_of ty.now) (value_of value.now))) out.old out.new result }
+#[tactic(auto, using(crate::proofs::FrontLaws::front_laws))]
+fn put_payload<W: Worded>(
+    out: &mut String,
+    value: &Value,
+    ty: &TypeNode,
+    style: &Style<W>,
+) -> Result<(), AllocError>
+    ensures { Shows style.now.room (in_marks (codes "(") (codes ")")
+        (spelling_by (W.words style.now.worded) (type_of ty.now) (value_of value.now)))
+        out.old out.new result }
 {
     put(out, "(")?;
-    put_value(out, value, ty)?;
+    put_value(out, value, ty, style)?;
     put(out, ")")
 }
 
@@ -236,13 +321,15 @@ fn put_enum(
 
 /// Adds `none`, or `some` with its payload.
 #[cycle(printing)]
-fn put_option(
+#[tactic(auto, using(crate::proofs::FrontLaws::front_laws))]
+fn put_option<W: Worded>(
     out: &mut String,
     index: u32,
     payload: &Option<Box<Value>>,
     some: &TypeNode,
+    style: &Style<W>,
 ) -> Result<(), AllocError>
-    ensures { Writes (spelling (cases option_type
+    ensures { Shows style.now.room (usual_by (W.words style.now.worded) (cases option_type
         (plain (codes "none") (carrying (codes "some") (type_of some.now) no_cases)))
         (payload_value index (boxed_value payload.now))) out.old out.new result }
 {
@@ -250,7 +337,7 @@ fn put_option(
         (0, None) => put(out, "none"),
         (1, Some(value)) => {
             put(out, "some")?;
-            put_payload(out, value, some)
+            put_payload(out, value, some, style)
         }
         _ => Ok(()),
     }
@@ -258,20 +345,23 @@ fn put_option(
 
 /// Adds a word, and the payload behind it, if the type is there.
 #[cycle(printing)]
-fn put_shared_case(
+#[tactic(auto, using(crate::proofs::FrontLaws::front_laws))]
+fn put_shared_case<W: Worded>(
     out: &mut String,
     word: &str,
     payload: &Option<Box<Value>>,
     ty: &Option<Rc<TypeNode>>,
+    style: &Style<W>,
 ) -> Result<(), AllocError>
-    ensures { Writes (case_end word.now (option_map spelling (shared_payload ty.now))
+    ensures { Shows style.now.room (case_end word.now
+        (option_map (spelling_by (W.words style.now.worded)) (shared_payload ty.now))
         (boxed_value payload.now)) out.old out.new result }
 {
     match (ty, payload) {
         (None, None) => put(out, word),
         (Some(ty), Some(value)) => {
             put(out, word)?;
-            put_payload(out, value, ty)
+            put_payload(out, value, ty, style)
         }
         _ => Ok(()),
     }

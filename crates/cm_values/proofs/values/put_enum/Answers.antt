@@ -1,11 +1,12 @@
 use Rattle.std.proofs.Common.{◌≡◌, rules}
 use Rattle.std.specs.String.{string_bytes}
 use Rattle.cm_types.specs.ValueTrees.{value_of}
+use Rattle.cm_values.specs.Spelling.{no_words}
 use Rattle.cm_values.proofs.CaseLaws.{enum_bearing, enum_past, enum_there, nothing_written}
 use Rattle.cm_values.proofs.values.put_enum.Goals as goal
 
 pub returns-in-Some : goal.returns-in-Some
-returns-in-Some c = rw c.in-Some.is (nothing_written (string_bytes c.args.out.now) _ (enum_bearing c.args.labels.now c.args.index (value_of c.in-Some.field-0.value)))
+returns-in-Some c = rw c.in-Some.is (nothing_written (string_bytes c.args.out.now) _ (enum_bearing no_words c.args.labels.now c.args.index (value_of c.in-Some.field-0.value)))
 
 pub returns-in-None-get : goal.returns-in-None-get
 returns-in-None-get c = rw c.in-None.is (nothing_written (string_bytes c.args.out.now) _ (enum_past c.args.labels.now c.args.index c.in-None-get.ensures.lookup.3))
