@@ -99,7 +99,9 @@ enum HuxKind {
     /* There are more or fewer answers than requests: `place` is how many answers there are. */
     HUX_KIND_ANSWERS = 25,
     /* A path leads to no type, or the function has no result. */
-    HUX_KIND_NO_PART = 26
+    HUX_KIND_NO_PART = 26,
+    /* The choice `place` is of an import that is not there, or that has a choice before. */
+    HUX_KIND_CHOICE = 33
 };
 
 /* What a type is, as CanonicalABI.md despecializes it: `HuxNode.sort` has its number. */
@@ -155,7 +157,7 @@ enum HuxPlanKind {
     /* An option of a lower or a lift, by its code, which is the sort: 0 UTF-8, 1 UTF-16, 2
      * Latin-1 or UTF-16, 3 the core memory `index`, 4 the core function `index` that allocates,
      * 5 the one that is called when a result was read (Binary.md, `canonopt`). */
-    HUX_PLAN_KIND_SETTING = 12
+    HUX_PLAN_KIND_CANON_OPTION = 12
 };
 
 /* What is wrong with a call of a set, by its kind, beside those of `HuxKind`. */
@@ -277,6 +279,28 @@ typedef struct HuxVerdict {
     size_t place;
     size_t item;
 } HuxVerdict;
+
+/* Where a component stands among groups: components in a row that count as one for those behind.
+ * The first component begins a group in any case. */
+typedef struct HuxPlace {
+    /* Not 0 where it begins a group, which sees what is seen of the groups before it. */
+    uint32_t begins;
+    /* Not 0 where those behind its group see its exports. */
+    uint32_t is_seen;
+} HuxPlace;
+
+/* The link that is chosen for an import, which sees this export alone. Files, and the imports
+ * and exports of each, count from 0. */
+typedef struct HuxChoice {
+    /* The file of the import. */
+    size_t importer;
+    /* The number of the import. */
+    size_t import_at;
+    /* The file of the export, which has to stand before that of the import. */
+    uint32_t provider;
+    /* The number of the export. */
+    size_t export_at;
+} HuxChoice;
 
 /* A file that is handed over: the parts of the bytes that are its name and what stands in it. */
 typedef struct HuxFile {
@@ -516,6 +540,28 @@ HuxVerdict hux_link(
     size_t text_length,
     size_t *wanted);
 
+/* Links the components of files as `hux_link` does, where it is chosen which exports their
+ * imports see: by a choice that one alone; else those that are seen of the groups before. With
+ * no place and no choice it is `hux_link`.
+ *
+ * `places` are those of the first files, in order; behind them each file is a group of its own,
+ * and seen. A choice only narrows: its export has to be of a file before, and to fit by name and
+ * by type, else the import is not served. HUX_KIND_CHOICE comes behind the faults of files, and
+ * before those of a link, at the place of the first choice of an import that is not there, or
+ * that has one. */
+HuxVerdict hux_link_by(
+    const uint8_t *bytes,
+    size_t bytes_length,
+    const HuxSpan *files,
+    size_t files_length,
+    const HuxPlace *places,
+    size_t places_length,
+    const HuxChoice *choices,
+    size_t choices_length,
+    uint8_t *text,
+    size_t text_length,
+    size_t *wanted);
+
 /* Tells how a type lies in memory, and in core values (CanonicalABI.md, "Alignment", "Element
  * Size" and "Flattening").
  *
@@ -603,6 +649,24 @@ HuxVerdict hux_set_new(
     size_t bytes_length,
     const HuxSpan *files,
     size_t files_length,
+    const uint32_t *pages,
+    size_t pages_length,
+    HuxSet *set);
+
+/* Makes a set as `hux_set_new` does, of components that are linked as `hux_link_by` links them.
+ *
+ * The answer is that of `hux_set_new`, but that what `hux_link_by` says stands for what
+ * `hux_link` says: so HUX_KIND_CHOICE comes behind the faults of files, and before those of a
+ * link. */
+HuxVerdict hux_set_new_by(
+    const uint8_t *bytes,
+    size_t bytes_length,
+    const HuxSpan *files,
+    size_t files_length,
+    const HuxPlace *places,
+    size_t places_length,
+    const HuxChoice *choices,
+    size_t choices_length,
     const uint32_t *pages,
     size_t pages_length,
     HuxSet *set);

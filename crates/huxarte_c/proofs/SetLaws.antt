@@ -5,6 +5,7 @@ use Rattle.std.specs.Prelude.{false, nat_lt, true}
 use Rattle.std.specs.declared.alloc.Global.{Global}
 use Rattle.std.specs.declared.vec.Vec.{Vec}
 use Rattle.std.specs.List.{AllByRecursion}
+use Rattle.cm_match_model.specs.Links.{CanBeLinked}
 use Rattle.cm_machine_model.specs.declared.event.Event.{Event}
 use Rattle.cm_machine_model.specs.declared.moves.Move.{Move}
 use Rattle.cm_live.specs.Kept.{gives_values}
@@ -13,13 +14,16 @@ use Rattle.cm_machine_model.specs.declared.event.Misuse.{Misuse}
 use Rattle.cm_machine_model.specs.declared.moves.Move.TheVariants as move
 use Rattle.cm_machine_set.specs.Running.{SetSteps}
 use Rattle.cm_types.specs.declared.core_value.CoreValue.{CoreValue}
-use Rattle.cm_match_model.specs.Links.{CanBeLinked}
 use Rattle.cm_shims.specs.Files.{AreRead, IsSound, Reading}
+use Rattle.cm_validate_model.specs.Spaces.{Spaces}
 use Rattle.cm_match_model.specs.Imports.{LinkSet}
 use Rattle.huxarte_c_calls.specs.declared.spans.HuxSpan.{HuxSpan}
 use Rattle.huxarte_c_calls.specs.Spans.{AreWithin, parts_of}
 use Rattle.huxarte_c_components.proofs.LinkLaws.{part_refused, stop_is}
-use Rattle.huxarte_c_components.specs.Linking.{CanLink, set_read}
+use Rattle.huxarte_c_components.specs.Choosing.{IsSetBy}
+use Rattle.huxarte_c_components.specs.Linking.{CanLink, CanLinkBy, spaces_read}
+use Rattle.huxarte_c_components.specs.declared.choosing.HuxChoice.{HuxChoice}
+use Rattle.huxarte_c_components.specs.declared.choosing.HuxPlace.{HuxPlace}
 use Rattle.huxarte_c.specs.Cores.{AreKinds, IsCoresFault, value_of}
 use Rattle.huxarte_c.specs.Kept.{IsDone, IsNoCoreMove, IsNoListMove, IsNoMove, IsNoMoveBy, KeptSteps, Moves}
 use Rattle.huxarte_c.specs.PlayedSets.{IsNewPlayed, IsWritten, PlayedSet}
@@ -118,46 +122,50 @@ cores_why cores old (refusal.NoHandle f) why = absurd why
 
 -- ---- sets of files
 
-can_link : (files : List (List ℕ)) (rs : List Reading) (set : LinkSet)
-    → AreRead files rs → AllByRecursion IsSound rs → set ≡ set_read rs → CanBeLinked set → CanLink files rs
-can_link files rs set read sound is can = record { are = record { read = read; sound = sound }; linked = subst CanBeLinked is can }
+can_link : (places : List HuxPlace) (choices : List HuxChoice) (files : List (List ℕ)) (rs : List Reading) (components : List Spaces) (set : LinkSet)
+    → AreRead files rs → AllByRecursion IsSound rs → components ≡ spaces_read rs → IsSetBy components places choices set → CanBeLinked set → CanLink places choices files rs set
+can_link places choices files rs components set read sound is by can = record {
+  are = record { read = read; sound = sound };
+  set_is = subst (λ cs. IsSetBy cs places choices set) is by;
+  linked = can;
+}
 
-pub made_is : {A : Type 0} (value : A → PlayedSet) (files : List (List ℕ)) (rs : List Reading) (set : LinkSet) (pages : List ℕ) (r : Result A SetRefusal)
-    → AreRead files rs → AllByRecursion IsSound rs → set ≡ set_read rs → IfOk r (λ b. IsSetLinked set pages (value b)) → IfOk r (λ b. IsSetOf files pages (value b))
-made_is value files rs set pages (Ok b) read sound is made =
-    (rs, can_link files rs set read sound is made.0, subst (λ (s : LinkSet). IsNewPlayed s pages (value b)) is made.1)
-made_is value files rs set pages (Err e) read sound is made = tt
+pub made_is : {A : Type 0} (value : A → PlayedSet) (places : List HuxPlace) (choices : List HuxChoice) (files : List (List ℕ)) (rs : List Reading) (components : List Spaces) (pages : List ℕ) (r : Result A SetRefusal)
+    → AreRead files rs → AllByRecursion IsSound rs → components ≡ spaces_read rs → IfOk r (λ b. IsSetLinked places choices components pages (value b)) → IfOk r (λ b. IsSetOf places choices files pages (value b))
+made_is value places choices files rs components pages (Ok b) read sound is made =
+    (rs, made.0, can_link places choices files rs components made.0 read sound is made.1 made.2, made.3)
+made_is value places choices files rs components pages (Err e) read sound is made = tt
 
-pub unmade_is : {A : Type 0} (files : List (List ℕ)) (rs : List Reading) (set : LinkSet) (pages : List ℕ) (r : Result A SetRefusal)
-    → AreRead files rs → AllByRecursion IsSound rs → set ≡ set_read rs → IfErr r (IsUnmade set pages) → IfErr r (IsUnmadeOf files pages)
-unmade_is files rs set pages (Ok v) read sound is why = tt
-unmade_is files rs set pages (Err (refusal.Link e)) read sound is why = stop_is files rs set e read sound is why
-unmade_is files rs set pages (Err (refusal.Misuse m)) read sound is why =
-    (rs, can_link files rs set read sound is why.0, subst (λ (s : LinkSet). IsUnmadeBy s pages (refusal.Misuse m)) is why.1)
-unmade_is files rs set pages (Err refusal.Memory) read sound is why = tt
-unmade_is files rs set pages (Err refusal.Empty) read sound is why = absurd why
-unmade_is files rs set pages (Err refusal.Full) read sound is why = absurd why
-unmade_is files rs set pages (Err (refusal.NoKind k)) read sound is why = absurd why
-unmade_is files rs set pages (Err refusal.NoInstance) read sound is why = absurd why
-unmade_is files rs set pages (Err refusal.Outside) read sound is why = absurd why
-unmade_is files rs set pages (Err (refusal.NoHandle f)) read sound is why = absurd why
+pub unmade_is : {A : Type 0} (places : List HuxPlace) (choices : List HuxChoice) (files : List (List ℕ)) (rs : List Reading) (components : List Spaces) (pages : List ℕ) (r : Result A SetRefusal)
+    → AreRead files rs → AllByRecursion IsSound rs → components ≡ spaces_read rs → IfErr r (IsUnmade places choices components pages) → IfErr r (IsUnmadeOf places choices files pages)
+unmade_is places choices files rs components pages (Ok v) read sound is why = tt
+unmade_is places choices files rs components pages (Err (refusal.Link e)) read sound is why = stop_is places choices files rs components e read sound is why
+unmade_is places choices files rs components pages (Err (refusal.Misuse m)) read sound is why =
+    (rs, why.0, can_link places choices files rs components why.0 read sound is why.1 why.2, why.3)
+unmade_is places choices files rs components pages (Err refusal.Memory) read sound is why = tt
+unmade_is places choices files rs components pages (Err refusal.Empty) read sound is why = absurd why
+unmade_is places choices files rs components pages (Err refusal.Full) read sound is why = absurd why
+unmade_is places choices files rs components pages (Err (refusal.NoKind k)) read sound is why = absurd why
+unmade_is places choices files rs components pages (Err refusal.NoInstance) read sound is why = absurd why
+unmade_is places choices files rs components pages (Err refusal.Outside) read sound is why = absurd why
+unmade_is places choices files rs components pages (Err (refusal.NoHandle f)) read sound is why = absurd why
 
 -- files that are parts of bytes
-pub made_parts : {A : Type 0} (value : A → PlayedSet) (bytes : List ℕ) (spans : List HuxSpan) (files : List (List ℕ)) (pages : List ℕ) (r : Result A SetRefusal)
-    → files ≡ parts_of bytes spans → AreWithin bytes spans → IfOk r (λ b. IsSetOf files pages (value b)) → IfOk r (λ b. AreWithin bytes spans × IsSetOf (parts_of bytes spans) pages (value b))
-made_parts value bytes spans files pages (Ok b) same within made = (within, subst (λ (f : List (List ℕ)). IsSetOf f pages (value b)) same made)
-made_parts value bytes spans files pages (Err e) same within made = tt
+pub made_parts : {A : Type 0} (value : A → PlayedSet) (places : List HuxPlace) (choices : List HuxChoice) (bytes : List ℕ) (spans : List HuxSpan) (files : List (List ℕ)) (pages : List ℕ) (r : Result A SetRefusal)
+    → files ≡ parts_of bytes spans → AreWithin bytes spans → IfOk r (λ b. IsSetOf places choices files pages (value b)) → IfOk r (λ b. AreWithin bytes spans × IsSetOf places choices (parts_of bytes spans) pages (value b))
+made_parts value places choices bytes spans files pages (Ok b) same within made = (within, subst (λ (f : List (List ℕ)). IsSetOf places choices f pages (value b)) same made)
+made_parts value places choices bytes spans files pages (Err e) same within made = tt
 
-pub unmade_parts : {A : Type 0} (bytes : List ℕ) (spans : List HuxSpan) (files : List (List ℕ)) (pages : List ℕ) (r : Result A SetRefusal)
-    → files ≡ parts_of bytes spans → AreWithin bytes spans → IfErr r (IsUnmadeOf files pages) → IfErr r (IsUnmadeParts bytes spans pages)
-unmade_parts bytes spans files pages (Ok v) same within why = tt
-unmade_parts bytes spans files pages (Err (refusal.Link e)) same within why = part_refused bytes spans files e same within why
-unmade_parts bytes spans files pages (Err (refusal.Misuse m)) same within why =
-    (within, subst (λ (f : List (List ℕ)). IsUnmadeLinked f pages (refusal.Misuse m)) same why)
-unmade_parts bytes spans files pages (Err refusal.Memory) same within why = tt
-unmade_parts bytes spans files pages (Err refusal.Empty) same within why = absurd why
-unmade_parts bytes spans files pages (Err refusal.Full) same within why = absurd why
-unmade_parts bytes spans files pages (Err (refusal.NoKind k)) same within why = absurd why
-unmade_parts bytes spans files pages (Err refusal.NoInstance) same within why = absurd why
-unmade_parts bytes spans files pages (Err refusal.Outside) same within why = absurd why
-unmade_parts bytes spans files pages (Err (refusal.NoHandle f)) same within why = absurd why
+pub unmade_parts : {A : Type 0} (places : List HuxPlace) (choices : List HuxChoice) (bytes : List ℕ) (spans : List HuxSpan) (files : List (List ℕ)) (pages : List ℕ) (r : Result A SetRefusal)
+    → files ≡ parts_of bytes spans → AreWithin bytes spans → IfErr r (IsUnmadeOf places choices files pages) → IfErr r (IsUnmadeParts places choices bytes spans pages)
+unmade_parts places choices bytes spans files pages (Ok v) same within why = tt
+unmade_parts places choices bytes spans files pages (Err (refusal.Link e)) same within why = part_refused places choices bytes spans files e same within why
+unmade_parts places choices bytes spans files pages (Err (refusal.Misuse m)) same within why =
+    (within, subst (λ (f : List (List ℕ)). IsUnmadeLinked places choices f pages (refusal.Misuse m)) same why)
+unmade_parts places choices bytes spans files pages (Err refusal.Memory) same within why = tt
+unmade_parts places choices bytes spans files pages (Err refusal.Empty) same within why = absurd why
+unmade_parts places choices bytes spans files pages (Err refusal.Full) same within why = absurd why
+unmade_parts places choices bytes spans files pages (Err (refusal.NoKind k)) same within why = absurd why
+unmade_parts places choices bytes spans files pages (Err refusal.NoInstance) same within why = absurd why
+unmade_parts places choices bytes spans files pages (Err refusal.Outside) same within why = absurd why
+unmade_parts places choices bytes spans files pages (Err (refusal.NoHandle f)) same within why = absurd why

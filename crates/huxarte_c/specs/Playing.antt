@@ -1,12 +1,11 @@
 -- Plays of the components of files (docs/COMMAND.md, "Scripts"): what the drives of a play come to
 -- is not said here.
-use Rattle.std.specs.Prelude.{◌≡◌, ⊤, ℕ, List, ◌∷◌, Result, Ok, Err}
-use Rattle.cm_match_model.specs.Links.{CanBeLinked}
-use Rattle.cm_match_model.specs.Imports.{LinkSet}
+use Rattle.std.specs.Prelude.{◌≡◌, ⊤, ℕ, List, [], ◌∷◌, Result, Ok, Err}
+use Rattle.cm_validate_model.specs.Spaces.{Spaces}
 use Rattle.huxarte_c.specs.declared.playing.PlayRefusal.{PlayRefusal}
 use Rattle.huxarte_c.specs.declared.playing.PlayRefusal.TheVariants as refusal
-use Rattle.huxarte_c_components.specs.Linking.{AreLinked, IsLinkRefusal, IsPartsRefusal, IsUnlinked}
-use Rattle.huxarte_c_components.specs.Linking.{of_link}
+use Rattle.huxarte_c_components.specs.Linking.{AreLinked, CanLinkBy, IsLinkRefusal}
+use Rattle.huxarte_c_components.specs.Linking.{IsPartsRefusal, IsUnlinkedBy, of_link}
 use Rattle.huxarte_c_components.specs.declared.linking.LinkRefusal.TheVariants as link
 use Rattle.huxarte_c_calls.specs.declared.kinds.HuxKind.TheVariants as kind
 use Rattle.huxarte_c_calls.specs.declared.spans.HuxSpan.{HuxSpan}
@@ -28,19 +27,19 @@ IsDriveRefusal (refusal.Link r) = ⊥
 IsDriveRefusal _ = ⊤
 
 -- components can't be linked, or are linked, and a play ends so
-abbrev pub IsUnplayed : LinkSet → PlayRefusal → Type 0
-IsUnplayed set (refusal.Link r) = IsUnlinked set r
-IsUnplayed set _ = CanBeLinked set
+abbrev pub IsUnplayed : List Spaces → PlayRefusal → Type 0
+IsUnplayed components (refusal.Link r) = IsUnlinkedBy [] [] components r
+IsUnplayed components _ = CanLinkBy [] [] components
 
 -- the components of files
 abbrev pub IsUnplayedOf : List (List ℕ) → PlayRefusal → Type 0
-IsUnplayedOf files (refusal.Link r) = IsLinkRefusal files r
-IsUnplayedOf files _ = AreLinked files
+IsUnplayedOf files (refusal.Link r) = IsLinkRefusal [] [] files r
+IsUnplayedOf files _ = AreLinked [] [] files
 
 -- and of files that are parts of bytes, one of which may pass their end
 abbrev pub IsSpansRefusal : List ℕ → List HuxSpan → PlayRefusal → Type 0
-IsSpansRefusal bytes spans (refusal.Link r) = IsPartsRefusal bytes spans r
-IsSpansRefusal bytes spans _ = AreWithin bytes spans × AreLinked (parts_of bytes spans)
+IsSpansRefusal bytes spans (refusal.Link r) = IsPartsRefusal [] [] bytes spans r
+IsSpansRefusal bytes spans _ = AreWithin bytes spans × AreLinked [] [] (parts_of bytes spans)
 
 -- and where the script is a part, too
 abbrev pub IsPlayRefusal : List ℕ → List HuxSpan → HuxSpan → PlayRefusal → Type 0
@@ -54,7 +53,7 @@ IsPlayRefusal bytes spans script r =
 abbrev pub IsPlayOutcome : List ℕ → List HuxSpan → HuxSpan → Result (Unit {0}) PlayRefusal
     → Type 0
 IsPlayOutcome bytes spans script (Ok _) =
-    AreWithin bytes (script ∷ spans) × AreLinked (parts_of bytes spans)
+    AreWithin bytes (script ∷ spans) × AreLinked [] [] (parts_of bytes spans)
 IsPlayOutcome bytes spans script (Err r) = IsPlayRefusal bytes spans script r
 
 -- the verdict on a play

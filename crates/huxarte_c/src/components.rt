@@ -1,5 +1,6 @@
 //! Components by the bytes of their files.
 
+ghost use Rattle.std.specs.Prelude.{[]};
 ghost use Rattle.huxarte_c_components.specs.Fitting.{IsFitVerdict};
 ghost use Rattle.huxarte_c_components.specs.Linking.{IsLinkVerdict};
 ghost use Rattle.huxarte_c_components.specs.Showing.{IsShownVerdict};
@@ -9,7 +10,9 @@ ghost use Rattle.huxarte_c_components.specs.Sound.{IsFileVerdict};
 ghost use Rattle.huxarte_c_calls.specs.Texts.{IsText};
 
 use huxarte_c_calls::{HuxNode, HuxSpan, HuxVerdict};
-use huxarte_c_components::{HuxPlan, HuxPlanPart, check, conform, lay, link_files, plan, show};
+use huxarte_c_components::{
+    HuxChoice, HuxPlace, HuxPlan, HuxPlanPart, check, conform, lay, link_files, plan, show,
+};
 use std::alloc::Global;
 
 /// Checks the bytes of a component file, which may have shims: whether they are a valid component
@@ -82,10 +85,35 @@ pub extern "C" fn hux_link(
     text: &mut [u8],
     wanted: &mut usize,
 ) -> HuxVerdict
-    ensures verdict { IsLinkVerdict bytes.now files.now result }
+    ensures verdict { IsLinkVerdict [] [] bytes.now files.now result }
     ensures text { IsText text.old wanted.new text.new }
 {
-    link_files(alloc, bytes, files, text, wanted)
+    link_files(alloc, bytes, files, &[], &[], text, wanted)
+}
+
+/// Links the components of files as `hux_link` does, where it is chosen which exports their imports
+/// see: by a choice that one alone; else those that are seen of the groups before. With no place
+/// and no choice it is `hux_link`.
+///
+/// `places` are those of the first files, in order; behind them each file is a group of its own,
+/// and seen. A choice only narrows: its export has to be of a file before, and to fit by name and
+/// by type, else the import is not served. `Choice` comes behind the faults of files, and before
+/// those of a link, at the place of the first choice of an import that is not there, or that has
+/// one.
+#[unsafe(no_mangle)]
+pub extern "C" fn hux_link_by(
+    alloc: Global,
+    bytes: &[u8],
+    files: &[HuxSpan],
+    places: &[HuxPlace],
+    choices: &[HuxChoice],
+    text: &mut [u8],
+    wanted: &mut usize,
+) -> HuxVerdict
+    ensures verdict { IsLinkVerdict places.now choices.now bytes.now files.now result }
+    ensures text { IsText text.old wanted.new text.new }
+{
+    link_files(alloc, bytes, files, places, choices, text, wanted)
 }
 
 /// Tells how a type lies in memory, and in core values (CanonicalABI.md, "Alignment", "Element

@@ -1,21 +1,20 @@
 //! Plays in process.
 
-ghost use Rattle.std.specs.Prelude.{◌≡◌, IfErr, List, OnOk, map, ℕ};
-ghost use Rattle.cm_match_model.specs.Links.{CanBeLinked};
-ghost use Rattle.cm_match_serving.specs.Sets.{set_of};
+ghost use Rattle.std.specs.Prelude.{◌≡◌, [], IfErr, List, OnOk, map, ℕ};
+ghost use Rattle.cm_match_serving.specs.Sets.{spaces_of_all};
 ghost use Rattle.cm_shims.specs.Files.{AreRead, reading_of};
 ghost use Rattle.huxarte_c.specs.Playing.{IsDriveRefusal, IsPlayOutcome, IsPlayVerdict, IsUnplayed};
 ghost use Rattle.huxarte_c.specs.Playing.{IsSpansRefusal, IsUnplayedOf, of_play};
-ghost use Rattle.huxarte_c_components.specs.Linking.{AreLinked};
+ghost use Rattle.huxarte_c_components.specs.Linking.{AreLinked, CanLinkBy};
 ghost use Rattle.huxarte_c_calls.specs.Spans.{AreWithin, parts_of};
 ghost use Rattle.huxarte_c_calls.specs.Texts.{IsText};
 ghost use Rattle.huxarte_c_calls.specs.Verdicts.{verdict_by};
 
-use cm_match::{Checked, Linked, link};
+use cm_match::{Checked, Linked};
 use cm_shims::{Shimmed, check_files, read_files};
 use cm_tool::{FileFault, Files, Outcome, play_linked, report};
 use huxarte_c_calls::{HuxKind, HuxSpan, HuxVerdict, Printed, part};
-use huxarte_c_components::{LinkRefusal, files_of};
+use huxarte_c_components::{LinkRefusal, files_of, link_by_numbers};
 use std::alloc::Global;
 use std::fmt;
 use std::io::Write;
@@ -105,12 +104,12 @@ fn play_set(
     script: &[u8],
     printed: &mut Printed,
 ) -> Result<(), PlayRefusal>
-    ensures linked { OnOk result (CanBeLinked (set_of components.entry.items)) }
-    ensures refused { IfErr result (IsUnplayed (set_of components.entry.items)) }
+    ensures linked { OnOk result (CanLinkBy [] [] (spaces_of_all components.entry.items)) }
+    ensures refused { IfErr result (IsUnplayed (spaces_of_all components.entry.items)) }
 {
-    match link(alloc, components) {
+    match link_by_numbers(alloc, components, &[], &[]) {
         Ok(linked) => play_on(alloc, &linked, script, printed),
-        Err(fault) => Err(PlayRefusal::Link(LinkRefusal::Link(fault))),
+        Err(refusal) => Err(PlayRefusal::Link(refusal)),
     }
 }
 
@@ -122,7 +121,7 @@ fn play_read(
     printed: &mut Printed,
 ) -> Result<(), PlayRefusal>
     ensures linked { (bytes : List (List ℕ)) → AreRead bytes (map reading_of files.now)
-        → OnOk result (AreLinked bytes) }
+        → OnOk result (AreLinked [] [] bytes) }
     ensures refused { (bytes : List (List ℕ)) → AreRead bytes (map reading_of files.now)
         → IfErr result (IsUnplayedOf bytes) }
 {
@@ -139,7 +138,7 @@ fn play_files(
     script: &[u8],
     printed: &mut Printed,
 ) -> Result<(), PlayRefusal>
-    ensures linked { OnOk result (AreLinked (map (λ f. f.now) files.now)) }
+    ensures linked { OnOk result (AreLinked [] [] (map (λ f. f.now) files.now)) }
     ensures refused { IfErr result (IsUnplayedOf (map (λ f. f.now) files.now)) }
 {
     match read_files(alloc, files) {
@@ -157,7 +156,7 @@ fn play_spans(
     printed: &mut Printed,
 ) -> Result<(), PlayRefusal>
     ensures within { OnOk result (AreWithin bytes.now spans.now) }
-    ensures linked { OnOk result (AreLinked (parts_of bytes.now spans.now)) }
+    ensures linked { OnOk result (AreLinked [] [] (parts_of bytes.now spans.now)) }
     ensures refused { IfErr result (IsSpansRefusal bytes.now spans.now) }
 {
     match files_of(alloc, bytes, spans) {

@@ -1,6 +1,6 @@
 //! Sets that run, by handle.
 
-ghost use Rattle.std.specs.Prelude.{◌≡◌, None, length, map};
+ghost use Rattle.std.specs.Prelude.{◌≡◌, [], None, length, map};
 ghost use Rattle.cm_machine_model.specs.Moves.{CallsWith, ReturnsWith, WritesAt};
 ghost use Rattle.cm_machine_model.specs.declared.moves.Move.TheVariants as moves;
 ghost use Rattle.huxarte_c.specs.Cores.{value_of};
@@ -23,6 +23,7 @@ use crate::making::make;
 use crate::moving::{begin, call, give, grow, stop, write};
 use crate::telling::{HuxRegion, HuxWritten, written};
 use huxarte_c_calls::{HuxHandle, HuxSpan, HuxVerdict};
+use huxarte_c_components::{HuxChoice, HuxPlace};
 use std::alloc::Global;
 
 /// Links the components of files, each a part of the bytes, as `hux_link` does, and has the handle
@@ -40,9 +41,30 @@ pub extern "C" fn hux_set_new(
     pages: &[u32],
     set: &mut HuxSet,
 ) -> HuxVerdict
-    ensures { IsNewVerdict bytes.now files.now pages.now set.old.kept set.new.kept result }
+    ensures { IsNewVerdict [] [] bytes.now files.now pages.now
+        set.old.kept set.new.kept result }
 {
-    make(alloc, bytes, files, pages, set)
+    make(alloc, bytes, files, &[], &[], pages, set)
+}
+
+/// Makes a set as `hux_set_new` does, of components that are linked as `hux_link_by` links them.
+///
+/// The answer is that of `hux_set_new`, but that what `hux_link_by` says stands for what `hux_link`
+/// says: so `Choice` comes behind the faults of files, and before those of a link.
+#[unsafe(no_mangle)]
+pub extern "C" fn hux_set_new_by(
+    alloc: Global,
+    bytes: &[u8],
+    files: &[HuxSpan],
+    places: &[HuxPlace],
+    choices: &[HuxChoice],
+    pages: &[u32],
+    set: &mut HuxSet,
+) -> HuxVerdict
+    ensures { IsNewVerdict places.now choices.now bytes.now files.now pages.now
+        set.old.kept set.new.kept result }
+{
+    make(alloc, bytes, files, places, choices, pages, set)
 }
 
 /// Frees the set, where there is one: the handle keeps none from here on.

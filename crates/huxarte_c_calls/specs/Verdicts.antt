@@ -34,6 +34,7 @@ kind_number kind.Handles = 23
 kind_number kind.Answer = 24
 kind_number kind.Answers = 25
 kind_number kind.NoPart = 26
+kind_number kind.Choice = 33
 
 -- what is wrong, for a reason, at an item of a place of a file
 abbrev pub at_item : HuxKind → ℕ → ℕ → ℕ → ℕ → HuxVerdict

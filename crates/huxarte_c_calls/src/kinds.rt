@@ -66,4 +66,6 @@ pub enum HuxKind {
     Answers = 25,
     /// A path leads to no type, or the function has no result.
     NoPart = 26,
+    /// The choice `place` is of an import that is not there, or that has a choice before.
+    Choice = 33,
 }

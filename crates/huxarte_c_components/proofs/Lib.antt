@@ -1,3 +1,4 @@
+mod ChoiceLaws
 mod FuncLaws
 pub mod LinkLaws
 mod ListLaws

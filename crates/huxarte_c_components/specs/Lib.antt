@@ -1,4 +1,5 @@
 pub mod Calling
+pub mod Choosing
 pub mod Faults
 pub mod Fitting
 pub mod Funcs

@@ -47,7 +47,7 @@ kind_number kind.New = 8
 kind_number kind.Drop = 9
 kind_number kind.Represent = 10
 kind_number kind.Lift = 11
-kind_number kind.Setting = 12
+kind_number kind.CanonOption = 12
 
 -- the number of a sort
 abbrev pub sort_number : CoreSort → ℕ
@@ -94,12 +94,12 @@ alias_parts _ = []
 
 -- an option of a canonical definition, by its code (Binary.md, `canonopt`)
 abbrev pub option_part : CanonOption → PartTree
-option_part option.Utf8 = plan_part kind.Setting 0 0 0 []
-option_part option.Utf16 = plan_part kind.Setting 0 1 0 []
-option_part option.Latin1Utf16 = plan_part kind.Setting 0 2 0 []
-option_part (option.Memory memory) = plan_part kind.Setting memory 3 0 []
-option_part (option.Realloc func) = plan_part kind.Setting func 4 0 []
-option_part (option.PostReturn func) = plan_part kind.Setting func 5 0 []
+option_part option.Utf8 = plan_part kind.CanonOption 0 0 0 []
+option_part option.Utf16 = plan_part kind.CanonOption 0 1 0 []
+option_part option.Latin1Utf16 = plan_part kind.CanonOption 0 2 0 []
+option_part (option.Memory memory) = plan_part kind.CanonOption memory 3 0 []
+option_part (option.Realloc func) = plan_part kind.CanonOption func 4 0 []
+option_part (option.PostReturn func) = plan_part kind.CanonOption func 5 0 []
 
 -- a canonical definition, and behind it its options
 abbrev pub canon_parts : CanonTree → List PartTree

@@ -7,6 +7,7 @@
 
 mod calling;
 mod checking;
+mod choosing;
 mod command;
 mod conforming;
 mod copying;
@@ -24,6 +25,7 @@ mod sound;
 
 pub use calling::call_of;
 pub use checking::{check, files_verdict};
+pub use choosing::{HuxChoice, HuxPlace, link_by_numbers};
 pub use command::Command;
 pub use conforming::conform;
 pub use copying::copy;

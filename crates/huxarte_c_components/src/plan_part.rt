@@ -37,7 +37,7 @@ pub enum HuxPlanKind {
     /// An option of a lower or a lift, by its code, which is the sort: 0 UTF-8, 1 UTF-16, 2
     /// Latin-1 or UTF-16, 3 the core memory `index`, 4 the core function `index` that allocates, 5
     /// the one that is called when a result was read (Binary.md, `canonopt`).
-    Setting = 12,
+    CanonOption = 12,
 }
 
 /// A part of a plan, in the order of the component's definitions. Each core definition has the next
@@ -158,7 +158,7 @@ pub(crate) fn option_part<'a>(option: CanonOption) -> Part<'a>
         CanonOption::PostReturn(func) => (5, func),
     };
     Part {
-        kind: HuxPlanKind::Setting,
+        kind: HuxPlanKind::CanonOption,
         index,
         sort,
         count: 0,
