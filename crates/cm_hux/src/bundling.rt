@@ -120,9 +120,10 @@ impl<'a> LinkedFiles<'_, '_, 'a> {
     }
 
     /// The set as one file, with the exports of this component.
-    fn bundle(&self, export: usize) -> Result<Vec<u8>, Fault<'static>> {
+    fn bundle(&self, export: usize) -> Result<Vec<u8>, Fault<'a>> {
         let files = self.loaded.bytes(self.alloc)?;
-        Ok(made(self.alloc, self.linked, &files, export)?)
+        let names = self.loaded.part_names(self.alloc)?;
+        Ok(made(self.alloc, self.linked, &files, export, &names)?)
     }
 
     /// Prints a graph of the links.

@@ -10,7 +10,7 @@ use cm_hux_call::run_call;
 use cm_hux_json::{core_objects, core_text, signature_objects};
 use cm_hux_play::files::{
     Asked, Ending, Escaped, Fault, Files, Functions, Loaded, LoadedFiles, Streams, ToolFault,
-    check_file, load_file, load_files, report, tell, tell_bytes, tell_fault,
+    check_file, load_files, read_bytes, report, signature_in, tell, tell_bytes, tell_fault,
 };
 use cm_hux_play::{run_live, run_play};
 use cm_hux_show::{ShowFault, show_world};
@@ -220,7 +220,7 @@ fn run_show<'a, F: Files, O: Write>(
     files: &mut F,
     out: &mut O,
 ) -> Result<Ending, Fault<'a>> {
-    let signature = signature_of(alloc, &load_file(alloc, files, name)?)?;
+    let signature = signature_in(alloc, name, read_bytes(alloc, files, name)?)?;
     let text = shown(name, show_world(alloc, &signature))?;
     if !habits.json {
         return print(out, text.as_str());

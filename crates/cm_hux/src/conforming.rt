@@ -1,12 +1,11 @@
 //! Whether the component of a file fits a world of the text of another.
 
 use cm_hux_play::files::{
-    Asked, Checked, Fault, Files, Loaded, ToolFault, Unfit, UnfitReason, conform_component,
-    conform_help, kept, load_file, of_file, read_bytes, signature, text_of, wit_help, world_help,
-    world_of,
+    Asked, Fault, Files, Loaded, ToolFault, Unfit, UnfitReason, conform_help, kept, of_file,
+    read_bytes, signature, signature_in, text_of, wit_help, world_help, world_of,
 };
 use cm_types_arena::Signature;
-use cm_wit_conforms::ConformFault;
+use cm_wit_conforms::conforms;
 use std::alloc::Global;
 
 /// What the component of a file imports and exports.
@@ -21,68 +20,58 @@ pub(crate) fn conform<'a, F: Files>(
     asked: Asked<'a>,
     files: &mut F,
 ) -> Result<(), Fault<'a>> {
-    let loaded = load_file(alloc, files, asked.file)?;
-    let checked = loaded.check(alloc)?;
+    let bytes = read_bytes(alloc, files, asked.file)?;
+    let have = signature_in(alloc, asked.file, bytes)?;
     let bytes = read_bytes(alloc, files, asked.wit)?;
-    conform_to(alloc, asked, &loaded, checked, &bytes)
+    conform_to(alloc, asked, &have, &bytes)
 }
 
-/// Refuses a component that does not fit the world of a text with these bytes.
+/// Refuses what does not fit the world of a text with these bytes.
 fn conform_to<'a>(
     alloc: Global,
     asked: Asked<'a>,
-    loaded: &Loaded<'_>,
-    checked: Checked<'_>,
+    have: &Signature,
     bytes: &[u8],
 ) -> Result<(), Fault<'a>> {
     let text = match text_of(asked.wit, bytes) {
         Ok(text) => text,
         Err(bad) => return Err(of_file(bad, String::new(alloc))),
     };
-    match conform_component(alloc, text, asked.world, checked) {
+    let world = match world_of(alloc, text, asked.world) {
+        Ok(world) => world,
+        Err(reason) => return Err(unfit(alloc, text, asked, reason)),
+    };
+    match conforms(alloc, have, &world) {
         Ok(()) => Ok(()),
-        Err(reason) => Err(unfit(alloc, text, asked, loaded, reason)),
+        Err(fault) => {
+            let tail = kept(alloc, conform_help(alloc, have, &world, fault));
+            Err(unfit_by(asked, UnfitReason::from(fault), tail))
+        }
     }
 }
 
-/// The fault of a component that does not fit, with what the text, its world and the component
-/// have.
-fn unfit<'a>(
+/// The fault of a text that has no such world, with what it has.
+pub(crate) fn unfit<'a>(
     alloc: Global,
     text: &str,
     asked: Asked<'a>,
-    loaded: &Loaded<'_>,
     reason: UnfitReason,
 ) -> Fault<'a> {
     let tail = match reason {
         UnfitReason::Wit(fault) => kept(alloc, wit_help(alloc, text, fault)),
         UnfitReason::World(fault) => kept(alloc, world_help(alloc, text, fault)),
-        UnfitReason::Signature(fault) => signature_tail(alloc, text, asked, loaded, fault),
-        UnfitReason::Memory => String::new(alloc),
+        UnfitReason::Signature(_) | UnfitReason::Memory => String::new(alloc),
     };
+    unfit_by(asked, reason, tail)
+}
+
+fn unfit_by(asked: Asked<'_>, reason: UnfitReason, tail: String) -> Fault<'_> {
+    let Asked { wit, world, file } = asked;
     let unfit = Unfit {
-        wit: asked.wit,
-        world: asked.world,
-        file: asked.file,
+        wit,
+        world,
+        file,
         reason,
     };
     Fault::Tool(ToolFault::Unfit { unfit, tail })
-}
-
-/// What the component and the world have where they differ; nothing where there is no memory for
-/// the words.
-fn signature_tail(
-    alloc: Global,
-    text: &str,
-    asked: Asked<'_>,
-    loaded: &Loaded<'_>,
-    fault: ConformFault,
-) -> String {
-    let (Ok(world), Ok(have)) = (
-        world_of(alloc, text, asked.world),
-        signature_of(alloc, loaded),
-    ) else {
-        return String::new(alloc);
-    };
-    kept(alloc, conform_help(alloc, &have, &world, fault))
 }

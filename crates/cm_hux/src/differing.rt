@@ -1,10 +1,10 @@
 //! What a component or a world in place of another breaks for users and hosts.
 
-use crate::conforming::signature_of;
+use crate::conforming::unfit;
 use cm_hux_diff::{Change, Difference, Effect, differences, replaces};
 use cm_hux_play::files::{
-    Ending, Escaped, Fault, Files, Object, ToValue, ToolFault, Unfit, UnfitReason, Value, kept,
-    load_bytes, of_file, read_bytes, tell, text_of, wit_help, world_help, world_of,
+    Asked, Ending, Escaped, Fault, Files, Object, ToValue, ToolFault, Value, of_file, read_bytes,
+    signature_in, tell, text_of, world_of,
 };
 use cm_hux_words::{DiffWords, Habits};
 use cm_tool_show::show;
@@ -36,13 +36,8 @@ impl<'a> Read<'a> {
     fn signature(&self, alloc: Global, world: Option<&'a str>) -> Result<Signature, Fault<'a>> {
         match world {
             Some(world) if self.is_text() => self.world(alloc, world),
-            _ => self.component(alloc),
+            _ => signature_in(alloc, self.name, self.bytes.to_vec(alloc)?),
         }
-    }
-
-    fn component(&self, alloc: Global) -> Result<Signature, Fault<'a>> {
-        let loaded = load_bytes(alloc, self.name, self.bytes.to_vec(alloc)?)?;
-        signature_of(alloc, &loaded)
     }
 
     fn world(&self, alloc: Global, world: &'a str) -> Result<Signature, Fault<'a>> {
@@ -52,30 +47,11 @@ impl<'a> Read<'a> {
         };
         match world_of(alloc, text, world) {
             Ok(signature) => Ok(signature),
-            Err(reason) => Err(self.no_world(alloc, text, world, reason)),
+            Err(reason) => {
+                let (wit, file) = (self.name, self.name);
+                Err(unfit(alloc, text, Asked { wit, world, file }, reason))
+            }
         }
-    }
-
-    /// The fault of a text that has no such world, with what it has.
-    fn no_world(
-        &self,
-        alloc: Global,
-        text: &str,
-        world: &'a str,
-        reason: UnfitReason,
-    ) -> Fault<'a> {
-        let tail = match reason {
-            UnfitReason::Wit(fault) => kept(alloc, wit_help(alloc, text, fault)),
-            UnfitReason::World(fault) => kept(alloc, world_help(alloc, text, fault)),
-            UnfitReason::Signature(_) | UnfitReason::Memory => String::new(alloc),
-        };
-        let unfit = Unfit {
-            wit: self.name,
-            world,
-            file: self.name,
-            reason,
-        };
-        Fault::Tool(ToolFault::Unfit { unfit, tail })
     }
 }
 

@@ -3,17 +3,17 @@
 use crate::fault::Fault;
 use crate::loading::Loaded;
 use crate::providers::Provider;
-use crate::serve_words::component_name;
+use crate::serve_words::{FileName, component_name};
 use cm_match_model::{Candidate, LinkFault};
 use cm_tool_help_texts::Escaped;
 use std::alloc::{AllocError, Global};
 
 /// What stands behind the tail of a `TwoProviders`: the words that choose the last component before
 /// that has an export for the import. The names are those of the files; what has none is not seen.
-pub(crate) fn choosing_text<'a>(
+pub(crate) fn choosing_text<'a, 'n>(
     alloc: Global,
     files: &[Loaded<'a>],
-    names: &[&str],
+    names: &[FileName<'n>],
     fault: LinkFault,
 ) -> Result<String, Fault<'a>> {
     let Some(file) = files.get(fault.component) else {
@@ -24,7 +24,7 @@ pub(crate) fn choosing_text<'a>(
         return Ok(String::new(alloc));
     };
     for (number, file) in files.iter().enumerate().take(fault.component).rev() {
-        let name = names.get(number).copied().unwrap_or("");
+        let name = file_of(names, number);
         let checked = file.check(alloc)?;
         let provider = Provider::new(alloc, number, checked.exports())?;
         let candidate = provider.fitting(alloc, &import.name)?;
@@ -36,17 +36,25 @@ pub(crate) fn choosing_text<'a>(
     Ok(String::new(alloc))
 }
 
+/// The file of the component of a number; nothing where it has none.
+fn file_of<'n>(names: &[FileName<'n>], number: usize) -> &'n str {
+    match names.get(number) {
+        Some(name) => name.file,
+        None => "",
+    }
+}
+
 /// The word for a file: what its component is called, or its number where another one is so too.
 fn called_as(
     alloc: Global,
-    files: &[&str],
+    files: &[FileName<'_>],
     number: usize,
     file: &str,
 ) -> Result<String, AllocError> {
     let name = component_name(file);
     let mut alike: usize = 0;
     for other in files {
-        if component_name(other) == name {
+        if component_name(other.file) == name {
             alike = alike.saturating_add(1);
         }
     }

@@ -3,7 +3,7 @@
 ghost use Rattle.std.specs.Prelude.{◌≡◌};
 ghost use Rattle.cm_tool_commands.specs.Statuses as tool;
 ghost use Rattle.cm_tool_commands.specs.cm_tool_files.Numbers.{file_status};
-ghost use Rattle.cm_hux_files.specs.Endings.{ending_status, fault_status};
+ghost use Rattle.cm_hux_files.specs.Endings.{ending_status, fault_status, why_status};
 ghost use Rattle.cm_hux_files.specs.declared.fault.Fault.TheVariants as fault;
 
 use crate::ending::Ending;
@@ -11,33 +11,52 @@ use crate::trouble::Trouble;
 use cm_binary_model::LimitFault;
 use cm_shims::{FitFault, PlainFault};
 use cm_stubs::StubFault;
-use cm_tool_commands::{Fault as ToolFault, FileReason};
+use cm_tool_commands::{BadFile, Fault as ToolFault, FileReason};
 use cm_tool_help_texts::Escaped;
 use std::alloc::{AllocError, AllocFailed};
 use std::io::Write;
 use std::{fmt, io};
+
+/// Why a component file is not what is wanted.
+#[derive(Clone, Copy)]
+pub enum WhyNoFile {
+    /// It is no component file, or not valid.
+    Reason(FileReason),
+    /// An item of a file with shims cannot be followed.
+    Plain(PlainFault),
+    /// What a file with shims stands for does not keep the limits of files.
+    Limit(LimitFault),
+    /// What the shims of a file want of its functions and types does not hold.
+    Unmet(FitFault),
+}
 
 /// Why a command ends early. A name is the word of the command line.
 #[derive(Drop)]
 pub enum Fault<'a> {
     /// The words are no command: what is wrong, and what is expected.
     Usage(String),
-    /// An item of a file with shims cannot be followed.
-    Plain { name: &'a str, fault: PlainFault },
-    /// What a file with shims stands for does not keep the limits of files.
-    Limit { name: &'a str, fault: LimitFault },
-    /// What the shims of a file want of its functions and types does not hold.
-    Unmet { name: &'a str, fault: FitFault },
+    /// A component file is not what is wanted. The name is that of the file, or what a part of a
+    /// bundle is called; the tail says what stands there.
+    File {
+        name: String,
+        why: WhyNoFile,
+        tail: String,
+    },
     /// No stub is made.
     Stub(StubFault),
     /// A bundle is not made or taken.
     Bundle(Trouble<'a>),
     /// A file cannot be written.
-    Unwritten { name: &'a str, kind: io::ErrorKind },
+    Unwritten {
+        name: &'a str,
+        kind: io::ErrorKind,
+    },
     /// Standard input cannot be read.
     Input,
     /// So many moves were made, which are the most that `live` was to make.
-    Moves { limit: u64 },
+    Moves {
+        limit: u64,
+    },
     /// What a script, a call or a line says is refused, in words.
     Refused(String),
     /// What `component_tool` says alike.
@@ -56,10 +75,8 @@ impl Fault<'_> {
     {
         match self {
             Fault::Usage(_) => Ending::Usage,
-            Fault::Plain { .. }
-            | Fault::Limit { .. }
-            | Fault::Unmet { .. }
-            | Fault::Stub(_)
+            Fault::File { why, .. } => ending_of_why(*why),
+            Fault::Stub(_)
             | Fault::Bundle(_)
             | Fault::Moves { .. }
             | Fault::Refused(_)
@@ -67,6 +84,16 @@ impl Fault<'_> {
             Fault::Unwritten { .. } | Fault::Input | Fault::Output => Ending::Unread,
             Fault::Tool(fault) => ending_of_tool(fault),
         }
+    }
+}
+
+/// How a command ends by a component file that is not what it wants.
+fn ending_of_why(why: WhyNoFile) -> Ending
+    ensures { ending_status result ≡ why_status why }
+{
+    match why {
+        WhyNoFile::Reason(reason) => ending_of_file(reason),
+        WhyNoFile::Plain(_) | WhyNoFile::Limit(_) | WhyNoFile::Unmet(_) => Ending::Refused,
     }
 }
 
@@ -155,9 +182,7 @@ impl fmt::Display for Fault<'_> {
     fn fmt<W: fmt::Write>(&self, f: &mut fmt::Formatter<W>) -> fmt::Result {
         match self {
             Fault::Usage(text) => f.write_str(text.as_str()),
-            Fault::Plain { name, fault } => write!(f, "{}: {fault}", Escaped(name)),
-            Fault::Limit { name, fault } => write!(f, "{}: {fault}", Escaped(name)),
-            Fault::Unmet { name, fault } => write!(f, "{}: {fault}", Escaped(name)),
+            Fault::File { name, why, tail } => write_no_file(f, name.as_str(), *why, tail.as_str()),
             Fault::Stub(fault) => write!(f, "{fault}"),
             Fault::Bundle(trouble) => write!(f, "{trouble}"),
             Fault::Unwritten { name, kind } => {
@@ -170,6 +195,21 @@ impl fmt::Display for Fault<'_> {
             Fault::Memory => write!(f, "{}", ToolFault::Memory),
             Fault::Output => write!(f, "{}", ToolFault::Output),
         }
+    }
+}
+
+/// Writes the line of a component file that is not what is wanted.
+fn write_no_file<W: fmt::Write>(
+    f: &mut fmt::Formatter<W>,
+    name: &str,
+    why: WhyNoFile,
+    tail: &str,
+) -> fmt::Result {
+    match why {
+        WhyNoFile::Reason(reason) => write!(f, "{}{tail}", BadFile { name, reason }),
+        WhyNoFile::Plain(fault) => write!(f, "{}: {fault}", Escaped(name)),
+        WhyNoFile::Limit(fault) => write!(f, "{}: {fault}", Escaped(name)),
+        WhyNoFile::Unmet(fault) => write!(f, "{}: {fault}", Escaped(name)),
     }
 }
 

@@ -1,6 +1,6 @@
 //! Faults as objects.
 
-use crate::fault::Fault;
+use crate::fault::{Fault, WhyNoFile};
 use crate::trouble::Trouble;
 use cm_hux_json::{Object, Value, first_word};
 use cm_stubs::StubFault;
@@ -65,20 +65,7 @@ fn bare(text: &str) -> &str {
 fn with_fault(object: Object, fault: &Fault<'_>) -> Result<Object, AllocError> {
     match fault {
         Fault::Usage(_) => object.with("name", "Usage"),
-        Fault::Plain { name, fault } => {
-            let number = fault.reason.number();
-            let object = object.with_derived("ShimReason", &fault.reason, number)?;
-            with_item(object.with("file", *name)?, fault.section, fault.item)
-        }
-        Fault::Limit { name, fault } => {
-            let object = object.with_derived("LimitFault", fault, fault.number())?;
-            object.with("file", *name)
-        }
-        Fault::Unmet { name, fault } => {
-            let number = fault.reason.number();
-            let object = object.with_derived("FitReason", &fault.reason, number)?;
-            object.with("file", *name)?.with("want", fault.want)
-        }
+        Fault::File { name, why, .. } => with_no_file(object, name.as_str(), why),
         Fault::Stub(fault) => with_stub_fault(object, fault),
         Fault::Bundle(trouble) => with_trouble(object, trouble),
         Fault::Unwritten { name, .. } => object.with("name", "Write")?.with("file", *name),
@@ -91,6 +78,25 @@ fn with_fault(object: Object, fault: &Fault<'_>) -> Result<Object, AllocError> {
         Fault::Tool(fault) => with_tool_fault(object, fault),
         Fault::Memory => object.with("name", "Memory"),
         Fault::Output => object.with("name", "Write"),
+    }
+}
+
+/// A component file that is not what is wanted.
+fn with_no_file(object: Object, name: &str, why: &WhyNoFile) -> Result<Object, AllocError> {
+    let object = object.with("file", name)?;
+    match why {
+        WhyNoFile::Reason(reason) => with_file_reason(object, reason),
+        WhyNoFile::Plain(fault) => {
+            let number = fault.reason.number();
+            let object = object.with_derived("ShimReason", &fault.reason, number)?;
+            with_item(object, fault.section, fault.item)
+        }
+        WhyNoFile::Limit(fault) => object.with_derived("LimitFault", fault, fault.number()),
+        WhyNoFile::Unmet(fault) => {
+            let number = fault.reason.number();
+            let object = object.with_derived("FitReason", &fault.reason, number)?;
+            object.with("want", fault.want)
+        }
     }
 }
 
@@ -134,7 +140,10 @@ fn with_trouble(object: Object, trouble: &Trouble<'_>) -> Result<Object, AllocEr
             let object = object.with_derived("BundleReason", &fault.reason, number)?;
             object.with("file", *name)?.with("at", fault.at)
         }
-        Trouble::OtherLinks { name } => object.with("name", "OtherLinks")?.with("file", *name),
+        Trouble::OtherLinks { name, .. } => {
+            let object = object.with("name", "OtherLinks")?;
+            object.with("file", name.as_str())
+        }
         Trouble::Memory => object.with("name", "Memory"),
     }
 }
@@ -178,8 +187,11 @@ fn line_number(shown: &str) -> Option<u64> {
 }
 
 fn with_bad_file(object: Object, bad: &BadFile<'_>) -> Result<Object, AllocError> {
-    let object = object.with("file", bad.name)?;
-    match &bad.reason {
+    with_file_reason(object.with("file", bad.name)?, &bad.reason)
+}
+
+fn with_file_reason(object: Object, reason: &FileReason) -> Result<Object, AllocError> {
+    match reason {
         FileReason::Unread(fault) => {
             object.with_reason("FileFault", fault.name(), fault.number(), fault)
         }

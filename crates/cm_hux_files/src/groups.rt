@@ -127,7 +127,7 @@ fn link_behind(line: &PlanLine, first: usize) -> Option<Link> {
 /// The fault of a bundle of this name, inside of which there is this fault.
 pub(crate) fn fault_inside<'a>(alloc: Global, name: &str, fault: Fault<'a>) -> Fault<'a> {
     match &fault {
-        Fault::Bundle(_) => return fault,
+        Fault::Bundle(_) | Fault::File { .. } => return fault,
         Fault::Memory | Fault::Tool(ToolFault::Memory) => return Fault::Memory,
         _ => {}
     }

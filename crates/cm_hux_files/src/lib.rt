@@ -12,9 +12,11 @@ mod left_open;
 mod loaded_files;
 mod loading;
 mod making;
+mod part_words;
 mod providers;
 mod serve_words;
 mod serving;
+mod signing;
 mod stop;
 mod streams;
 mod taking;
@@ -34,7 +36,7 @@ pub use cm_tool_help_texts::{Escaped, wit_help, world_help};
 pub use cm_tool_help_types::conform_help;
 pub use cm_validate_functions::Functions;
 pub use ending::Ending;
-pub use fault::{Fault, report};
+pub use fault::{Fault, WhyNoFile, report};
 pub use fault_objects::{fault_object, tell, tell_bytes, tell_fault};
 pub use groups::Group;
 pub use left_open::open_imports;
@@ -42,6 +44,7 @@ pub use loaded_files::{LoadedFiles, check_file, load_files};
 pub use loading::{Loaded, kept, load_bytes, load_file, of_file, read_bytes};
 pub use making::{made, write_arguments};
 pub use providers::links_by_name;
+pub use signing::signature_in;
 pub use stop::{Stop, told};
 pub use streams::{
     DiskStreams, Streams, create, refuse_to_overwrite, unwritten, write_file, write_whole,

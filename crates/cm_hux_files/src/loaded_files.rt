@@ -3,11 +3,13 @@
 use crate::choosing::choosing_text;
 use crate::fault::Fault;
 use crate::groups::{Group, Inside, add_places, fault_inside, group_of, is_seen, links_behind};
-use crate::loading::{Loaded, kept, load_bytes, of_file, read_bytes};
-use crate::serve_words::{component_name, refuse_words};
+use crate::loading::{Loaded, kept, load_bytes, load_part, of_file, read_bytes};
+use crate::part_words::part_words;
+use crate::serve_words::{FileName, refuse_words};
 use crate::serving::choices_of;
-use crate::taking::{PART_NAMES, bundle_in, check_links, choices_in, exporter_in, is_bundle};
+use crate::taking::{Arguments, arguments_of, bundle_in, is_bundle, read_bundle};
 use cm_binary_model::Component;
+use cm_bundle::{PartName, part_names};
 use cm_hux_words::ServeWords;
 use cm_match::link_by;
 use cm_match_model::{Choices, LinkReason};
@@ -17,18 +19,6 @@ use cm_tool_commands::{
 use cm_tool_help_types::link_help;
 use cm_types_arena::Signature;
 use std::alloc::{AllocError, Global};
-
-/// The name that `unbundle` gives the file of this number; none where a set may not have so many
-/// and one more.
-fn part_name(number: usize) -> Option<&'static str> {
-    PART_NAMES.get(number).copied()
-}
-
-/// What a part of a bundle of this name is called among other files.
-fn part_word(alloc: Global, name: &str, number: usize) -> Result<String, AllocError> {
-    let name = component_name(name);
-    format!(in alloc; "{name}/{number}")
-}
 
 /// What some files stand for, in order: those before the first that cannot be read. For a bundle
 /// its parts stand.
@@ -76,9 +66,8 @@ fn check_bundle<'a>(alloc: Global, name: &'a str, bytes: Vec<u8>) -> Result<(), 
 
 /// These files, which are read in order, up to the first that cannot be, with its fault, where
 /// there is one. Where there are more than a set may have, one more than that is read, and the
-/// others are not. For a bundle its parts stand: under the names that `unbundle` gives them where
-/// it is the only file, and else as `name/1`; then it is linked by itself, and its own fault comes
-/// where it is not the bundle of its parts.
+/// others are not. For a bundle its parts stand, as `name/logger` or `name/1`; among other files it
+/// is linked by itself before, and its own fault comes where it is not the bundle of its parts.
 pub fn load_files<'a, F: Files>(
     alloc: Global,
     files: &mut F,
@@ -109,13 +98,13 @@ impl<'a> LoadedFiles<'a> {
     }
 
     /// The parts of the bundle of this name, whose bytes these are.
-    fn of_bundle(
+    pub(crate) fn of_bundle(
         alloc: Global,
         name: &'a str,
         bytes: Vec<u8>,
     ) -> Result<LoadedFiles<'a>, Fault<'a>> {
         let mut loaded = LoadedFiles::none(alloc, 0);
-        match loaded.load_parts(alloc, &bytes) {
+        match loaded.load_parts(alloc, name, &bytes) {
             Ok(_) => {
                 loaded.bundle = Some((name, bytes));
                 Ok(loaded)
@@ -163,7 +152,7 @@ impl<'a> LoadedFiles<'a> {
     ) -> Result<(), Fault<'a>> {
         match LoadedFiles::of_bundle(alloc, name, bytes) {
             Ok(alone) => match alone.inside(alloc, self.loaded.len()) {
-                Ok(inside) => Ok(self.add_parts(alloc, name, alone, inside)?),
+                Ok(inside) => Ok(self.add_parts(alone, inside)?),
                 Err(fault) => Err(fault_inside(alloc, name, fault)),
             },
             Err(fault) => Err(fault_inside(alloc, name, fault)),
@@ -172,31 +161,25 @@ impl<'a> LoadedFiles<'a> {
 
     /// What is inside the bundle whose parts these are, where its first part has this number in
     /// another set.
-    fn inside(&self, alloc: Global, first: usize) -> Result<Inside, Fault<'a>> {
-        let linked = self.link(alloc, None)?;
+    pub(crate) fn inside(&self, alloc: Global, first: usize) -> Result<Inside, Fault<'a>> {
+        let components = self.check(alloc, None)?;
         let exporter = match &self.bundle {
-            Some((name, bytes)) => exporter_in(alloc, name, bytes, &linked)?,
+            Some((name, bytes)) => self.arguments(alloc, name, bytes, &components)?.exporter,
             None => 0,
         };
+        let linked = self.link_checked(alloc, components)?;
         Ok(Inside {
             exporter,
             links: links_behind(alloc, &linked, first)?,
         })
     }
 
-    /// Adds the parts of a bundle of this name, inside of which it is so.
-    fn add_parts(
-        &mut self,
-        alloc: Global,
-        name: &'a str,
-        alone: LoadedFiles<'a>,
-        inside: Inside,
-    ) -> Result<(), AllocError> {
+    /// Adds the parts of a bundle, inside of which it is so.
+    fn add_parts(&mut self, alone: LoadedFiles<'a>, inside: Inside) -> Result<(), AllocError> {
         let LoadedFiles { loaded, bundle, .. } = alone;
         let first = self.loaded.len();
         self.count = self.count.saturating_add(loaded.len()).saturating_sub(1);
-        for (number, mut part) in loaded.into_iter().enumerate() {
-            part.part = Some(part_word(alloc, name, number)?);
+        for part in loaded {
             self.loaded.push(part)?;
         }
         if let Some((name, bytes)) = bundle {
@@ -217,7 +200,7 @@ impl<'a> LoadedFiles<'a> {
         name: &'a str,
     ) -> Result<(), Fault<'a>> {
         let bytes = read_bytes(alloc, files, name)?;
-        if self.load_parts(alloc, &bytes)? {
+        if self.load_parts(alloc, name, &bytes)? {
             self.bundle = Some((name, bytes));
         } else {
             self.loaded.push(load_bytes(alloc, name, bytes)?)?;
@@ -225,8 +208,14 @@ impl<'a> LoadedFiles<'a> {
         Ok(())
     }
 
-    /// Loads the files of a bundle, and answers whether these bytes are one.
-    fn load_parts(&mut self, alloc: Global, bytes: &[u8]) -> Result<bool, Fault<'a>> {
+    /// Loads the parts of a bundle of this name, and answers whether these bytes are one. Of more
+    /// parts than a set may have one more than that is loaded.
+    fn load_parts(
+        &mut self,
+        alloc: Global,
+        name: &'a str,
+        bytes: &[u8],
+    ) -> Result<bool, Fault<'a>> {
         let Some(bundle) = bundle_in(alloc, bytes)? else {
             return Ok(false);
         };
@@ -234,12 +223,10 @@ impl<'a> LoadedFiles<'a> {
         if let Some(supply) = bundle.exports.first() {
             self.exporter = Some(supply.export.part);
         }
-        for (number, part) in bundle.parts.iter().enumerate() {
-            let Some(name) = part_name(number) else {
-                return Ok(true);
-            };
+        let words = part_words(alloc, name, &bundle)?;
+        for (part, word) in bundle.parts.iter().zip(words) {
             let file = part.file.to_vec(alloc)?;
-            self.loaded.push(load_bytes(alloc, name, file)?)?;
+            self.loaded.push(load_part(alloc, name, word, file)?)?;
         }
         Ok(true)
     }
@@ -291,6 +278,27 @@ impl<'a> LoadedFiles<'a> {
         Ok(bytes)
     }
 
+    /// What the parts of a bundle of these files are called: as their components are, or as the
+    /// bundle whose parts they all are has it.
+    pub fn part_names(&self, alloc: Global) -> Result<Vec<PartName<'_>>, Fault<'a>> {
+        match &self.bundle {
+            Some((name, bytes)) => Ok(part_names(alloc, &read_bundle(alloc, name, bytes)?)?),
+            None => Ok(self.called(alloc)?),
+        }
+    }
+
+    /// What the components are called, by number.
+    fn called(&self, alloc: Global) -> Result<Vec<PartName<'_>>, AllocError> {
+        let mut names = Vec::with_capacity(alloc, self.loaded.len())?;
+        let mut part: u32 = 0;
+        for file in &self.loaded {
+            let name = file.called();
+            names.push(PartName { part, name })?;
+            part = part.saturating_add(1);
+        }
+        Ok(names)
+    }
+
     /// The components of the files, in order.
     pub fn into_components(self, alloc: Global) -> Result<Vec<Component>, AllocError> {
         let mut components = Vec::with_capacity(alloc, self.loaded.len())?;
@@ -332,7 +340,9 @@ impl<'a> LoadedFiles<'a> {
     pub fn choices(&self, alloc: Global, components: &[Checked<'_>]) -> Result<Choices, Fault<'a>> {
         if let Some((name, bytes)) = &self.bundle {
             refuse_words(alloc, &self.serve.words)?;
-            return Ok(choices_in(alloc, name, bytes, components)?);
+            let mut choices = Choices::none(alloc);
+            choices.links = self.arguments(alloc, name, bytes, components)?.links;
+            return Ok(choices);
         }
         let names = self.names(alloc)?;
         let mut choices = choices_of(alloc, &names, components, &self.groups, &self.serve)?;
@@ -340,17 +350,33 @@ impl<'a> LoadedFiles<'a> {
         Ok(choices)
     }
 
-    /// The words that name the files of the components, in order. A bundle among other files names
-    /// the part whose exports it has, and nothing its others.
-    fn names(&self, alloc: Global) -> Result<Vec<&str>, AllocError> {
+    /// How the parts of the bundle of this name, whose bytes these are, are linked.
+    fn arguments(
+        &self,
+        alloc: Global,
+        name: &'a str,
+        bytes: &[u8],
+        components: &[Checked<'_>],
+    ) -> Result<Arguments, Fault<'a>> {
+        let bundle = read_bundle(alloc, name, bytes)?;
+        let loaded = self.loaded.as_slice();
+        Ok(arguments_of(alloc, name, &bundle, loaded, components)?)
+    }
+
+    /// What names the components, in order. A bundle among other files names the part whose exports
+    /// it has.
+    fn names(&self, alloc: Global) -> Result<Vec<FileName<'_>>, AllocError> {
         let mut names = Vec::with_capacity(alloc, self.loaded.len())?;
         for (number, file) in self.loaded.iter().enumerate() {
-            names.push(self.name_of(number, file.name))?;
+            names.push(FileName {
+                file: self.file_of(number, file.name),
+                part: file.part.as_deref(),
+            })?;
         }
         Ok(names)
     }
 
-    fn name_of<'n>(&'n self, number: usize, name: &'n str) -> &'n str {
+    fn file_of<'n>(&'n self, number: usize, name: &'n str) -> &'n str {
         match group_of(&self.groups, number) {
             None => name,
             Some(group) if group.exporter() == number => group.name,
@@ -358,28 +384,21 @@ impl<'a> LoadedFiles<'a> {
         }
     }
 
-    /// The linked set of the components, as words say, or as the bundle links them, which has to be
-    /// that of its files as they are linked.
+    /// The linked set of the components, as words say, or as the bundle links them.
     pub fn link_checked<'b>(
         &'b self,
         alloc: Global,
         components: Vec<Checked<'b>>,
     ) -> Result<Linked<'b>, Fault<'a>> {
         let choices = self.choices(alloc, &components)?;
-        let linked = match link_by(alloc, components, choices) {
-            Ok(linked) => linked,
-            Err(fault) => {
-                return Err(Fault::Tool(ToolFault::Link {
-                    fault,
-                    count: self.count,
-                    tail: kept(alloc, self.tail_of(alloc, fault)),
-                }));
-            }
-        };
-        if let Some((name, bytes)) = &self.bundle {
-            check_links(alloc, name, bytes, &linked)?;
+        match link_by(alloc, components, choices) {
+            Ok(linked) => Ok(linked),
+            Err(fault) => Err(Fault::Tool(ToolFault::Link {
+                fault,
+                count: self.count,
+                tail: kept(alloc, self.tail_of(alloc, fault)),
+            })),
         }
-        Ok(linked)
     }
 
     /// What the components have where they do not link, in words.

@@ -6,9 +6,8 @@ ghost use Rattle.cm_validate_functions.specs.cm_validate_spaces.Checked.{section
 ghost use Rattle.cm_shims_plain.specs.Reading.{IsReadAs, outcome};
 ghost use Rattle.cm_shims.specs.Fitting.{AllHold};
 
-use crate::fault::Fault;
+use crate::fault::{Fault, WhyNoFile};
 use crate::serve_words::component_name;
-use cm_binary_forms::DecodeFault;
 use cm_shims::{Place, ShimFault, Shimmed, fits, read};
 use cm_tool_commands::{
     BadFile, Checked, Fault as ToolFault, FileReason, Files, ValidFault, checked_of, read_file,
@@ -17,13 +16,13 @@ use cm_tool_help_texts::{bytes_help, valid_help};
 use std::alloc::Global;
 
 /// A file that is read: its name, which is the word of the command line, its bytes, and what it
-/// stands for.
+/// stands for. A part of a bundle has the name of the bundle.
 #[derive(Drop)]
 pub struct Loaded<'a> {
     pub name: &'a str,
     pub bytes: Vec<u8>,
     pub shimmed: Shimmed,
-    /// What a part of a bundle among other files is called, as `name/1`.
+    /// What a part of a bundle is called, as `name/1`.
     pub(crate) part: Option<String>,
 }
 
@@ -40,16 +39,32 @@ pub fn of_file<'a>(bad: BadFile<'a>, tail: String) -> Fault<'a> {
     Fault::Tool(ToolFault::File { bad, tail })
 }
 
-/// The fault of bytes that are no component file: what stands there.
-fn not_decoded<'a>(alloc: Global, name: &'a str, bytes: &[u8], fault: DecodeFault) -> Fault<'a> {
-    let bad = BadFile {
-        name,
-        reason: FileReason::NoComponent {
-            fault,
-            found: bytes.get(fault.at).copied(),
-        },
-    };
-    of_file(bad, kept(alloc, bytes_help(alloc, bytes, fault)))
+/// The fault of a component file, or of a part of a bundle that is called so, with a tail.
+fn no_file(alloc: Global, name: &str, why: WhyNoFile, tail: String) -> Fault<'static> {
+    match String::from_str(alloc, name) {
+        Ok(name) => Fault::File { name, why, tail },
+        Err(_) => Fault::Memory,
+    }
+}
+
+/// The fault of bytes that a file or a part of this name has: what stands there.
+fn not_read(alloc: Global, name: &str, bytes: &[u8], fault: ShimFault) -> Fault<'static> {
+    match fault {
+        ShimFault::Decode(fault) => {
+            let reason = FileReason::NoComponent {
+                fault,
+                found: bytes.get(fault.at).copied(),
+            };
+            let tail = kept(alloc, bytes_help(alloc, bytes, fault));
+            no_file(alloc, name, WhyNoFile::Reason(reason), tail)
+        }
+        ShimFault::Plain(fault) => {
+            no_file(alloc, name, WhyNoFile::Plain(fault), String::new(alloc))
+        }
+        ShimFault::Limit(fault) => {
+            no_file(alloc, name, WhyNoFile::Limit(fault), String::new(alloc))
+        }
+    }
 }
 
 /// The bytes of the file of this name.
@@ -89,9 +104,25 @@ pub fn load_bytes<'a>(alloc: Global, name: &'a str, bytes: Vec<u8>) -> Result<Lo
             shimmed,
             part: None,
         }),
-        Err(ShimFault::Decode(fault)) => Err(not_decoded(alloc, name, bytes.as_slice(), fault)),
-        Err(ShimFault::Plain(fault)) => Err(Fault::Plain { name, fault }),
-        Err(ShimFault::Limit(fault)) => Err(Fault::Limit { name, fault }),
+        Err(fault) => Err(not_read(alloc, name, bytes.as_slice(), fault)),
+    }
+}
+
+/// What a part with these bytes stands for, which is called so, of the bundle of this name.
+pub(crate) fn load_part<'a>(
+    alloc: Global,
+    name: &'a str,
+    part: String,
+    bytes: Vec<u8>,
+) -> Result<Loaded<'a>, Fault<'a>> {
+    match read(alloc, bytes.as_slice()) {
+        Ok(shimmed) => Ok(Loaded {
+            name,
+            bytes,
+            shimmed,
+            part: Some(part),
+        }),
+        Err(fault) => Err(not_read(alloc, part.as_str(), bytes.as_slice(), fault)),
     }
 }
 
@@ -104,19 +135,19 @@ impl<'a> Loaded<'a> {
     {
         let checked = match checked_of(alloc, self.name, &self.shimmed.component) {
             Ok(checked) => checked,
-            Err(bad) => return Err(self.not_valid(alloc, bad)),
+            Err(bad) => return Err(self.not_valid(alloc, bad.reason)),
         };
         match fits(alloc, &checked, self.shimmed.wants.as_slice()) {
             Ok(()) => Ok(checked),
-            Err(fault) => Err(Fault::Unmet {
-                name: self.name,
-                fault,
-            }),
+            Err(fault) => {
+                let why = WhyNoFile::Unmet(fault);
+                Err(no_file(alloc, self.word(), why, String::new(alloc)))
+            }
         }
     }
 
     /// What its component is called: as the file without folder and `.wasm`, or as a part of a
-    /// bundle among other files.
+    /// bundle.
     pub fn called(&self) -> &str {
         match &self.part {
             Some(part) => part.as_str(),
@@ -124,8 +155,7 @@ impl<'a> Loaded<'a> {
         }
     }
 
-    /// The word of the command line that names it, or what it is called as a part of a bundle among
-    /// other files.
+    /// The word of the command line that names it, or what it is called as a part of a bundle.
     pub fn word(&self) -> &str {
         match &self.part {
             Some(part) => part.as_str(),
@@ -134,13 +164,14 @@ impl<'a> Loaded<'a> {
     }
 
     /// The fault of a component that is not valid, at its place in the file.
-    fn not_valid(&self, alloc: Global, bad: BadFile<'a>) -> Fault<'a> {
-        let FileReason::NotValid(fault) = bad.reason else {
-            return of_file(bad, String::new(alloc));
+    fn not_valid(&self, alloc: Global, reason: FileReason) -> Fault<'static> {
+        let FileReason::NotValid(fault) = reason else {
+            let why = WhyNoFile::Reason(reason);
+            return no_file(alloc, self.word(), why, String::new(alloc));
         };
         let tail = kept(alloc, valid_help(alloc, &self.shimmed.component, fault));
-        let reason = FileReason::NotValid(self.in_file(fault));
-        of_file(BadFile { reason, ..bad }, tail)
+        let why = WhyNoFile::Reason(FileReason::NotValid(self.in_file(fault)));
+        no_file(alloc, self.word(), why, tail)
     }
 
     /// A fault at the section and item of the file from which the component's come.

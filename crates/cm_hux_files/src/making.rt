@@ -2,14 +2,15 @@
 
 use crate::trouble::Trouble;
 use crate::type_imports::imports_type;
-use cm_bundle::{Bundle, BundlingFault, Part, bundle};
+use cm_bundle::{Bundle, BundlingFault, Part, PartName, bundle};
 use cm_match::Linked;
 use cm_tool_help_texts::Escaped;
 use std::alloc::Global;
 use std::io;
 use std::io::Write;
 
-/// The bundle of a linked set, of whose components these are the files, with the exports of one.
+/// The bundle of a linked set, of whose components these are the files and the names, with the
+/// exports of one.
 ///
 /// `ImportsType` comes where a file imports a type: other runtimes want an argument for it, and the
 /// set has none.
@@ -18,9 +19,10 @@ pub fn made(
     linked: &Linked<'_>,
     files: &[&[u8]],
     exporter: usize,
+    names: &[PartName<'_>],
 ) -> Result<Vec<u8>, Trouble<'static>> {
     refuse_type_imports(alloc, files)?;
-    match bundle(alloc, linked, files, exporter) {
+    match bundle(alloc, linked, files, exporter, names) {
         Ok(bytes) => Ok(bytes),
         Err(BundlingFault::Memory) => Err(Trouble::Memory),
         Err(fault) => Err(Trouble::NotMade(fault)),

@@ -27,6 +27,21 @@ pub(crate) struct ServeWord<'a> {
     pub(crate) export: Option<&'a str>,
 }
 
+/// What names a component: its file, or nothing, and what it is called as a part of a bundle.
+#[derive(Clone, Copy)]
+pub(crate) struct FileName<'n> {
+    pub(crate) file: &'n str,
+    pub(crate) part: Option<&'n str>,
+}
+
+impl FileName<'_> {
+    /// Whether a component is called so.
+    fn is(self, word: &str) -> bool {
+        let is_file = !self.file.is_empty() && component_name(self.file) == word;
+        is_file || self.part == Some(word)
+    }
+}
+
 /// The components that a word names.
 enum NamedFile {
     Nothing,
@@ -34,12 +49,11 @@ enum NamedFile {
     Several,
 }
 
-/// The components of files with these names that a word names: the one of a file that is called
-/// so, or else the one of a number. No word names a component of no name.
-fn called(files: &[&str], word: &str) -> NamedFile {
+/// The components that a word names: the one that is called so, or else the one of a number.
+fn called(files: &[FileName<'_>], word: &str) -> NamedFile {
     let mut found = NamedFile::Nothing;
     for (number, file) in files.iter().enumerate() {
-        if !file.is_empty() && component_name(file) == word {
+        if file.is(word) {
             found = match found {
                 NamedFile::Nothing => NamedFile::One(number),
                 NamedFile::One(_) | NamedFile::Several => NamedFile::Several,
@@ -87,7 +101,7 @@ const SEVERAL: &str = "more than one file is called so: name it by its number, c
 /// The component that is to serve, and the name of its export, where one is named.
 fn provider_in<'a>(
     alloc: Global,
-    files: &[&str],
+    files: &[FileName<'_>],
     word: &str,
     named: &'a str,
 ) -> Result<(usize, Option<&'a str>), Fault<'static>> {
@@ -109,7 +123,7 @@ fn provider_in<'a>(
 /// The component whose import it is, where one is named, and the name of the import.
 fn import_in<'a>(
     alloc: Global,
-    files: &[&str],
+    files: &[FileName<'_>],
     word: &str,
     named: &'a str,
 ) -> Result<(Option<usize>, &'a str), Fault<'static>> {
@@ -127,7 +141,7 @@ fn import_in<'a>(
 /// or nothing on a side of it, and where no file, or more than one, is called as its provider.
 pub(crate) fn read_word<'a>(
     alloc: Global,
-    files: &[&str],
+    files: &[FileName<'_>],
     word: &'a str,
 ) -> Result<ServeWord<'a>, Fault<'static>> {
     let Some((import, provider)) = word.split_once('=') else {

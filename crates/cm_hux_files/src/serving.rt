@@ -3,7 +3,7 @@
 use crate::fault::Fault;
 use crate::groups::{Group, group_of};
 use crate::providers::{Provider, link_to, seen_providers};
-use crate::serve_words::{ServeWord, no_word, read_word, serves_nothing};
+use crate::serve_words::{FileName, ServeWord, no_word, read_word, serves_nothing};
 use cm_hux_words::ServeWords;
 use cm_match_model::{Candidate, Choices, Link};
 use cm_match_serving::Checked;
@@ -21,7 +21,7 @@ use std::alloc::{AllocError, Global};
 /// nothing.
 pub(crate) fn choices_of(
     alloc: Global,
-    files: &[&str],
+    files: &[FileName<'_>],
     components: &[Checked<'_>],
     groups: &[Group<'_>],
     serve: &ServeWords<'_>,

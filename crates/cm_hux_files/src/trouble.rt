@@ -6,7 +6,7 @@ use std::alloc::{AllocError, AllocFailed};
 use std::fmt;
 
 /// Why a bundle is not made or taken. A name is the word of the command line.
-#[derive(Clone, Copy, Drop)]
+#[derive(Drop)]
 pub enum Trouble<'a> {
     /// The components are not written as one file; not for want of memory.
     NotMade(BundlingFault),
@@ -15,8 +15,8 @@ pub enum Trouble<'a> {
     ImportsType { component: usize },
     /// The file is no bundle; not for want of memory.
     NoBundle { name: &'a str, fault: BundleFault },
-    /// The file is a bundle, but not the one that is made of its files.
-    OtherLinks { name: &'a str },
+    /// A bundle, or a part of one, that is called so, links otherwise than its files do, in words.
+    OtherLinks { name: String, why: String },
     /// There was no memory.
     Memory,
 }
@@ -44,9 +44,9 @@ impl fmt::Display for Trouble<'_> {
             Trouble::NoBundle { name, fault } => {
                 write!(f, "{}: it is no bundle: {fault}", Escaped(name))
             }
-            Trouble::OtherLinks { name } => {
-                let name = Escaped(name);
-                write!(f, "{name}: OtherLinks: it is not the bundle of its files")
+            Trouble::OtherLinks { name, why } => {
+                let name = Escaped(name.as_str());
+                write!(f, "{name}: OtherLinks: {why}")
             }
             Trouble::Memory => f.write_str("no memory"),
         }

@@ -5,8 +5,9 @@ use crate::words::{Form, Tie, Word};
 /// What the program's own help ends with.
 pub(crate) const ABOUT_ALL: &str =
     "A file named - is standard input. A file may have shims: nested components
-that rename what they are given, which tools write for each exported interface. But for show,
-conform and diff it may be a bundle: its files are components of the set then.
+that rename what they are given, which tools write for each exported interface. It may be a
+bundle, but among several of stub without --caller: its files are components of the set then,
+called set/user, by the names that the bundle has for them, or set/1.
 
 Exit status: 0 done, 1 something was refused, 2 the words are no command, 3 a drive trapped,
 4 a file cannot be read or written, or standard output not be written.
@@ -344,8 +345,8 @@ prints
         name: "link",
         about: "Links components: each imports from those before it",
         example: "With -o it writes them as one component that other runtimes read: a bundle. It has
-each file, byte for byte, and exports what the last one does, or the one that --export
-counts from 0; what the others export is hidden then.
+each file, byte for byte, and its name, and exports what the last one does, or the one that
+--export counts from 0; what the others export is hidden then.
 
 Where several files export what an import fits, --serve says which serves it, or
 PROVIDER/EXPORT. A file is named by its name without folder and .wasm, or by its

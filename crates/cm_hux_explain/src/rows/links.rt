@@ -111,8 +111,8 @@ pub(crate) const ROWS: &str = "\
     Link at most 16 components to a bundle.\t\
     none: the form of a bundle, which is a component as Binary.md has it\n\
     bundle\tBundleReason\t10\tSurplus\t\
-    bytes behind the exports\t\
-    A tool added a section, as one of producers or names, behind the bundle's own.\t\
+    bytes behind the exports that are no custom section\t\
+    A tool added a section behind the bundle's own that is no custom one.\t\
     Write it again by `hux link FILE.. -o OUT`; a component of another form is linked as a file of \
     its own.\t\
     none: the form of a bundle, which is a component as Binary.md has it\n\

@@ -1,0 +1,66 @@
+//! What files import and export.
+
+use crate::fault::Fault;
+use crate::loaded_files::LoadedFiles;
+use crate::loading::{load_bytes, of_file};
+use crate::taking::is_bundle;
+use cm_stubs::caller;
+use cm_tool_commands::{Checked, checked_of, signature};
+use cm_types_arena::{Externs, NumberedExterns, Signature};
+use std::alloc::{AllocError, Global};
+
+/// What the component of a file of this name, whose bytes these are, imports and exports. A bundle
+/// has to be that of its parts, linked as its arguments say: it imports nothing, and exports what
+/// its exporter does.
+pub fn signature_in<'a>(
+    alloc: Global,
+    name: &'a str,
+    bytes: Vec<u8>,
+) -> Result<Signature, Fault<'a>> {
+    if is_bundle(alloc, &bytes)? {
+        return bundle_signature(alloc, name, bytes);
+    }
+    let loaded = load_bytes(alloc, name, bytes)?;
+    Ok(signature(alloc, loaded.check(alloc)?)?)
+}
+
+fn bundle_signature<'a>(
+    alloc: Global,
+    name: &'a str,
+    bytes: Vec<u8>,
+) -> Result<Signature, Fault<'a>> {
+    let loaded = LoadedFiles::of_bundle(alloc, name, bytes)?;
+    let exporter = loaded.inside(alloc, 0)?.exporter;
+    match loaded.files().get(exporter) {
+        Some(part) => exports_alone(alloc, part.check(alloc)?),
+        None => Err(Fault::Memory),
+    }
+}
+
+/// The signature of a component that exports what this one does, and imports nothing: the exports
+/// are the last imports of a component that stands in for a caller, behind those that it needs for
+/// resources of imports.
+fn exports_alone<'a>(alloc: Global, checked: Checked<'_>) -> Result<Signature, Fault<'a>> {
+    let count = checked.exports().len();
+    let caller = caller(alloc, &signature(alloc, checked)?)?;
+    match checked_of(alloc, "", &caller) {
+        Ok(checked) => Ok(last_imports(alloc, checked, count)?),
+        Err(bad) => Err(of_file(bad, String::new(alloc))),
+    }
+}
+
+/// The signature of a component that exports what are the last imports of this one, so many.
+fn last_imports(
+    alloc: Global,
+    checked: Checked<'_>,
+    count: usize,
+) -> Result<Signature, AllocError> {
+    let mut externs = checked.into_externs();
+    let first = externs.imports.len().saturating_sub(count);
+    let exports = externs.imports.split_off(first)?;
+    Ok(Signature::new(
+        externs.types,
+        Externs::OfComponent(NumberedExterns::unnumbered(alloc, Vec::new(alloc))),
+        Externs::OfComponent(NumberedExterns::unnumbered(alloc, exports)),
+    ))
+}
