@@ -4,12 +4,13 @@ use Rattle.std.proofs.lemmas.List.{append-nil, length-append}
 use Rattle.std.specs.List.{flat_map}
 use Rattle.cm_binary_grammar.specs.Spelling.{blob_spelling}
 use Rattle.cm_binary_grammar.specs.Whole.{SpellsEach}
+use Rattle.cm_bundle.specs.Bundles.{IsBundle, bundle, spelled}
 use Rattle.cm_bundle.specs.declared.form.TheConstants.{BUNDLE_PREAMBLE, MAX_PARTS}
 use Rattle.cm_bundle.specs.declared.codes.Next.{Next}
 use Rattle.cm_bundle.specs.declared.codes.Next.TheVariants as next
 use Rattle.cm_bundle.specs.Trees.{BodyTree, BundleTree}
-use Rattle.cm_bundle.specs.Spelled.{Spaces, no_spaces, exports_of, all_counted, part_spelled, body_spelled, spelled, after_part, custom_spelled, AreSupplied, IsBundle}
-use Rattle.cm_bundle.specs.Grammar.{next_of, behind, body, custom, customs, bundle}
+use Rattle.cm_bundle.specs.Spelled.{Spaces, no_spaces, exports_of, all_counted, part_spelled, body_spelled, after_part, custom_spelled, AreSupplied}
+use Rattle.cm_bundle.specs.Grammar.{next_of, behind, body, custom, customs}
 use Rattle.cm_bundle.specs.declared.fault.BundleReason.TheVariants as reasons
 use Rattle.cm_bundle.proofs.EitherCode.{either_code}
 use Rattle.cm_bundle.proofs.SpellingIs.{two, last, bytes_is, part_is, exports_are}

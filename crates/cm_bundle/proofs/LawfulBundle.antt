@@ -7,6 +7,7 @@ use Rattle.cm_binary_grammar.specs.Grammar.{number}
 use Rattle.cm_binary_grammar.proofs.Laws.{Lawful, done_lawful, bind_lawful, fail_lawful, code_lawful, number_lawful, raw_lawful, check_lawful, fixed_lawful, times_lawful}
 use Rattle.cm_binary_grammar.proofs.WholeLaws.{LawfulWhole, build_lawful, exactly_lawful, join_lawful}
 use Rattle.cm_binary_grammar.proofs.EndLaws.{IsNonempty, to_end_lawful}
+use Rattle.cm_bundle.specs.Bundles.{bundle}
 use Rattle.cm_bundle.specs.declared.form.TheConstants.{MAX_PARTS}
 use Rattle.cm_bundle.specs.declared.codes.Next.{Next}
 use Rattle.cm_bundle.specs.declared.codes.Next.TheVariants as next
@@ -14,7 +15,7 @@ use Rattle.cm_bundle.specs.declared.fault.BundleReason.TheVariants as reasons
 use Rattle.cm_bundle.specs.declared.spaces.Counts.{Counts}
 use Rattle.cm_bundle.specs.Trees.{ExportTree, BodyTree}
 use Rattle.cm_bundle.specs.Spelled.{Spaces, no_spaces, counted}
-use Rattle.cm_bundle.specs.Grammar.{Production, short, this_number, bytes_of, text, sized, part_instance, alias, aliases, supply, supplies, instance_of, exports_of_all, part, exports, behind, body, custom, customs, bundle}
+use Rattle.cm_bundle.specs.Grammar.{Production, short, this_number, bytes_of, text, sized, part_instance, alias, aliases, supply, supplies, instance_of, exports_of_all, part, exports, behind, body, custom, customs}
 use Rattle.cm_bundle.specs.Names.{part_name, name_map, name_section, name_data}
 use Rattle.cm_bundle.proofs.MeasuredLaws.{measured_lawful}
 

@@ -12,10 +12,11 @@ use Rattle.cm_binary_grammar.specs.Grammar.{times}
 use Rattle.cm_binary_grammar.specs.Spelling.{vec_spelling, blob_spelling}
 use Rattle.cm_binary_grammar.proofs.WrittenLaws.{Spelled, bind_written, last_written, fixed_written, chain_written}
 use Rattle.cm_lemmas.proofs.Lists.{all_spelled}
+use Rattle.cm_bundle.specs.Bundles.{IsBundle, spelled}
 use Rattle.cm_bundle.specs.declared.form.TheConstants.{BUNDLE_PREAMBLE, NAMES_HEAD}
 use Rattle.cm_bundle.specs.declared.fault.BundleReason.TheVariants as reasons
 use Rattle.cm_bundle.specs.Trees.{BundleTree, NameTree}
-use Rattle.cm_bundle.specs.Spelled.{body_spelled, custom_spelled, no_spaces, spelled, IsBundle}
+use Rattle.cm_bundle.specs.Spelled.{body_spelled, custom_spelled, no_spaces}
 use Rattle.cm_bundle.specs.Names.{part_name, name_map, name_section, name_data, if_read, names_in, names_of, name_spelled, names_spelled, name_sections, IsName}
 use Rattle.cm_bundle.proofs.LawfulBundle.{name_data_lawful}
 use Rattle.cm_bundle.proofs.Shortest.{short_written}

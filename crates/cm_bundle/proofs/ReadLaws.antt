@@ -11,8 +11,7 @@ use Rattle.cm_bundle.specs.declared.fault.BundleFault.{BundleFault}
 use Rattle.cm_bundle.specs.declared.fault.BundleReason.{BundleReason}
 use Rattle.cm_bundle.specs.declared.fault.BundleReason.TheVariants.{Truncated, Memory}
 use Rattle.cm_bundle.specs.Trees.{BundleTree, bundle_tree}
-use Rattle.cm_bundle.specs.Spelled.{spelled, IsBundle}
-use Rattle.cm_bundle.specs.Grammar.{bundle, FirstFault}
+use Rattle.cm_bundle.specs.Bundles.{FirstFault, IsBundle, bundle, spelled}
 use Rattle.cm_bundle.specs.Answers.{Accepts, Refuses, Answers}
 use Rattle.cm_bundle.proofs.LawfulBundle.{bundle_lawful}
 use Rattle.cm_bundle.proofs.BundleIs.{bundle_is}

@@ -3,11 +3,12 @@ use Rattle.std.proofs.Common.{◌≡◌, ℕ, ◌+◌, ◌≤◌, ◌^◌, List,
 use Rattle.std.specs.Prelude.{◌↔◌}
 use Rattle.std.specs.List.{AllByRecursion, flat_map}
 use Rattle.std.proofs.lemmas.List.{length-append}
+use Rattle.cm_bundle.specs.Bundles.{spelled}
 use Rattle.cm_bundle.specs.declared.form.TheConstants.{BUNDLE_PREAMBLE}
 use Rattle.cm_bundle.specs.declared.writing.WriteFault.{WriteFault}
 use Rattle.cm_bundle.specs.declared.writing.WriteFault.TheVariants as faults
 use Rattle.cm_bundle.specs.Trees.{SupplyTree, PartTree, BundleTree}
-use Rattle.cm_bundle.specs.Spelled.{Spaces, no_spaces, part_spelled, exports_spelled, body_spelled, spelled, after_part, custom_spelled, IsSupply, AreSupplied}
+use Rattle.cm_bundle.specs.Spelled.{Spaces, no_spaces, part_spelled, exports_spelled, body_spelled, after_part, custom_spelled, IsSupply, AreSupplied}
 use Rattle.cm_bundle.specs.Refusals.{IsRefused, IsWrong, WritesExports, WritesBody}
 
 -- What is wrong with a part is wrong with all of which it is a part.

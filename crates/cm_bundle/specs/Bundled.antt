@@ -1,6 +1,6 @@
 -- The bundle of a linked set (how components are linked, and what a bundle exports, is this
 -- project's own choice).
-use Rattle.std.specs.Prelude.{ℕ, List, [], Option, map, slice_get}
+use Rattle.std.specs.Prelude.{◌≡◌, ℕ, List, [], ◌∷◌, Option, map, slice_get}
 use Rattle.std.specs.List.{enumerate_from, filter_map}
 use Rattle.std.specs.Option.{option_map, option_map_or, option_and_then}
 use Rattle.cm_types.specs.Signatures.{ExternTy, NamedExtern}
@@ -14,8 +14,9 @@ use Rattle.cm_match_model.specs.Links.{lines_of}
 use Rattle.cm_match.specs.Before.{imports_at}
 use Rattle.cm_bundle.specs.declared.form.Sort.{Sort}
 use Rattle.cm_bundle.specs.declared.form.Sort.TheVariants as sorts
+use Rattle.cm_bundle.specs.Fronts.{all_passed_on, AreGroups}
 use Rattle.cm_bundle.specs.Names.{name_sections}
-use Rattle.cm_bundle.specs.Trees.{SupplyTree, PartTree, BundleTree, NameTree}
+use Rattle.cm_bundle.specs.Trees.{GroupTree, SupplyTree, PartTree, BundleTree, NameTree}
 
 -- ---- sorts (Binary.md, `sort`)
 
@@ -70,15 +71,33 @@ abbrev pub exports_of : List Spaces → ℕ → List SupplyTree
 exports_of set component =
     option_map_or (λ s. map (exported component) s.exports) (slice_get set component) []
 
--- the bundle of a set with these files, which exports what this component does, with custom
--- sections of these contents
-abbrev pub bundle_with : LinkSet → List (List ℕ) → ℕ → List (List ℕ) → BundleTree
-bundle_with set files exporter customs = record {
-  parts = map (part_of set) (enumerate_from 0 files);
+-- the number of the first component that is a part: in a set of which an open bundle is made
+-- component 0 stands for what the bundle imports
+abbrev pub first_part : List GroupTree → ℕ
+first_part [] = 0
+first_part (g ∷ gs) = 1
+
+-- this front imports what component 0 exports, in order and under the same names
+pub record IsFrontOf (set : LinkSet) (front : List GroupTree) : Type 0 where
+  pub groups : AreGroups front
+  pub same : all_passed_on front ≡ exports_of set.spaces 0
+
+-- a closed bundle has no front, and an open one that of component 0
+abbrev pub FrontFits : LinkSet → List GroupTree → Type 0
+FrontFits set [] = Unit {0}
+FrontFits set (g ∷ gs) = IsFrontOf set (g ∷ gs)
+
+-- the bundle of a set with this front and these files, which exports what this component does, with
+-- custom sections of these contents
+abbrev pub bundle_with : LinkSet → List GroupTree → List (List ℕ) → ℕ → List (List ℕ) → BundleTree
+bundle_with set front files exporter customs = record {
+  front = front;
+  parts = map (part_of set) (enumerate_from (first_part front) files);
   exports = exports_of set.spaces exporter;
   customs = customs;
 }
 
 -- the same, with these names for its parts
-abbrev pub bundle_of : LinkSet → List (List ℕ) → ℕ → List NameTree → BundleTree
-bundle_of set files exporter names = bundle_with set files exporter (name_sections names)
+abbrev pub bundle_of : LinkSet → List GroupTree → List (List ℕ) → ℕ → List NameTree → BundleTree
+bundle_of set front files exporter names =
+    bundle_with set front files exporter (name_sections names)

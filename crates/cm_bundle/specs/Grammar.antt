@@ -1,6 +1,6 @@
--- The grammar of bundles: which bytes spell a bundle, and what is the first fault of bytes that
--- spell none (Binary.md, whose names of the productions stand in brackets). `x ← g` reads one
--- thing, and the next line what stands behind it.
+-- The grammar of parts and exports of bundles, and of custom sections: which bytes spell them, and
+-- what is the first fault of bytes that do not (Binary.md, whose names of the productions stand in
+-- brackets). `x ← g` reads one thing, and the next line what stands behind it.
 use Rattle.std.specs.Prelude.{◌≡◌, ℕ, zero, suc, ◌+◌, ◌-◌, ◌^◌, ◌≤◌, ◌<◌, ◌⊎◌, List, [], ◌∷◌, ◌++◌}
 use Rattle.std.specs.Prelude.{length, Bool, true, false, Result, Ok, Err, Option, ◌==◌}
 use Rattle.std.specs.Prelude.{if◌then◌else◌, is_some}
@@ -8,21 +8,19 @@ use Rattle.std.specs.List.{position}
 use Rattle.std.specs.Option.{unwrap_or}
 use Rattle.std.specs.Str.{is_utf8}
 use Rattle.cm_leb.specs.NumbersWritten.{unsigned_length}
-use Rattle.cm_binary_grammar.specs.declared.fault.End.TheVariants as end
 use Rattle.cm_binary_grammar.specs.Faults.{flaw, and_then}
 use Rattle.cm_binary_grammar.specs.Grammar.{Grammar, done, ◌>>=◌, fail, code, number, raw, check}
 use Rattle.cm_binary_grammar.specs.Grammar.{fixed, times}
-use Rattle.cm_binary_grammar.specs.Whole.{Whole, build, join, to_end}
+use Rattle.cm_binary_grammar.specs.Whole.{Whole, to_end}
 use Rattle.cm_bundle.specs.declared.form.Sort.{Sort}
 use Rattle.cm_bundle.specs.declared.form.Sort.TheVariants as sorts
-use Rattle.cm_bundle.specs.declared.form.TheConstants.{BUNDLE_PREAMBLE, MAX_PARTS}
 use Rattle.cm_bundle.specs.declared.codes.Next.{Next}
 use Rattle.cm_bundle.specs.declared.codes.Next.TheVariants as next
 use Rattle.cm_bundle.specs.declared.fault.BundleReason.{BundleReason}
 use Rattle.cm_bundle.specs.declared.fault.BundleReason.TheVariants as reasons
 use Rattle.cm_bundle.specs.declared.spaces.Counts.{Counts}
-use Rattle.cm_bundle.specs.Trees.{ExportTree, SupplyTree, PartTree, BodyTree, BundleTree}
-use Rattle.cm_bundle.specs.Spelled.{Spaces, no_spaces, next_index, counted, after_part}
+use Rattle.cm_bundle.specs.Trees.{ExportTree, SupplyTree, PartTree, BodyTree}
+use Rattle.cm_bundle.specs.Spelled.{Spaces, next_index, next_component, counted, after_part}
 use Rattle.cm_bundle.specs.Spelled.{sort_code}
 
 -- A production of the grammar.
@@ -147,7 +145,7 @@ part s = do
   aliased ← fixed (0x06 ∷ []) reasons.UnknownCode
   xs ← sized (aliases s.places)
   instanced ← fixed (0x05 ∷ []) reasons.UnknownCode
-  arguments ← sized (instance_of (length s.places) s.counts xs)
+  arguments ← sized (instance_of (next_component s.counts s.places) s.counts xs)
   done (record { file = file; arguments = arguments })
 
 -- The exports behind the id of their first section.
@@ -188,19 +186,3 @@ custom = do
 -- Custom sections to the end.
 unfoldable pub customs : Whole BundleReason (List (List ℕ))
 customs = to_end (λ (s : Unit {0}). custom) (λ s x. s) tt
-
--- What stands behind the preamble: the parts, the exports, the custom sections.
-abbrev pub behind_preamble : Whole BundleReason BundleTree
-behind_preamble = join (body (MAX_PARTS + 1) no_spaces)
-    (λ b. build (λ cs. record { parts = b.parts; exports = b.exports; customs = cs }) customs)
-
--- A bundle: all the bytes.
-unfoldable pub bundle : Whole BundleReason BundleTree
-bundle = join (fixed BUNDLE_PREAMBLE reasons.BadPreamble) (λ preamble. behind_preamble)
-
--- The bytes are no bundle, and this is their first fault, met reading byte after byte.
-abbrev pub FirstFault : List ℕ → ℕ → BundleReason → Type 0
-FirstFault bytes at reason =
-    ((2 ^ 32 ≤ length bytes) × (at ≡ 2 ^ 32 - 1) × (reason ≡ reasons.TooLong))
-    ⊎ ((length bytes < 2 ^ 32) × ((left : ℕ) × (at + left ≡ length bytes)
-    × bundle.Faulty (end.Cut reasons.Truncated) bytes (flaw left reason)))

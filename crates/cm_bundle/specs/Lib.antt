@@ -6,6 +6,8 @@ pub mod Texts
 pub mod Trees
 pub mod Spelled
 pub mod Grammar
+pub mod Fronts
+pub mod Bundles
 pub mod Room
 pub mod Answers
 pub mod Reasons

@@ -17,3 +17,4 @@ reason_number reasons.TooManyParts = 9
 reason_number reasons.Surplus = 10
 reason_number reasons.TooLong = 11
 reason_number reasons.Memory = 12
+reason_number reasons.BadFront = 13

@@ -7,9 +7,14 @@ use Rattle.cm_binary_grammar.specs.Faults.{Fails}
 use Rattle.cm_bundle.specs.declared.form.Part.{Part}
 use Rattle.cm_bundle.specs.declared.fault.BundleReason.{BundleReason}
 use Rattle.cm_bundle.specs.declared.spaces.Counts.{Counts}
+use Rattle.cm_bundle.specs.declared.spaces.FrontSpaces.{FrontSpaces}
 use Rattle.cm_bundle.specs.Grammar.{part}
-use Rattle.cm_bundle.specs.Spelled.{exports_of, all_counted}
+use Rattle.cm_bundle.specs.Spelled.{Spaces, exports_of, all_counted}
 use Rattle.cm_bundle.specs.Trees.{SupplyTree, part_tree}
+
+-- The index spaces behind a front, as they lie in memory.
+abbrev pub spaces_of : FrontSpaces → Spaces
+spaces_of s = record { counts = s.counts; places = s.places.items }
 
 -- Counts that leave room for so many more.
 abbrev pub HasRoom : Counts → ℕ → Type 0

@@ -1,16 +1,15 @@
--- The one spelling of a bundle (Binary.md, whose names of the productions stand in brackets), and
--- which bundles have one.
-use Rattle.std.specs.Prelude.{◌≡◌, ℕ, ◌+◌, ◌<◌, ◌≤◌, ◌^◌, List, [], ◌∷◌, ◌++◌, length, true}
+-- The one spelling of parts and exports of bundles, and of custom sections (Binary.md, whose names
+-- of the productions stand in brackets), and which parts have one.
+use Rattle.std.specs.Prelude.{◌≡◌, ℕ, ◌+◌, ◌-◌, ◌<◌, List, [], ◌∷◌, ◌++◌, length, true}
 use Rattle.std.specs.Prelude.{slice_index, map}
-use Rattle.std.specs.List.{AllByRecursion, flat_map}
+use Rattle.std.specs.List.{AllByRecursion}
 use Rattle.std.specs.Str.{is_utf8}
 use Rattle.cm_leb.specs.NumbersWritten.{shortest_unsigned}
 use Rattle.cm_binary_grammar.specs.Spelling.{vec_spelling, blob_spelling}
 use Rattle.cm_bundle.specs.declared.form.Sort.{Sort}
 use Rattle.cm_bundle.specs.declared.form.Sort.TheVariants as sorts
-use Rattle.cm_bundle.specs.declared.form.TheConstants.{BUNDLE_PREAMBLE, MAX_PARTS}
 use Rattle.cm_bundle.specs.declared.spaces.Counts.{Counts}
-use Rattle.cm_bundle.specs.Trees.{ExportTree, SupplyTree, PartTree, BundleTree}
+use Rattle.cm_bundle.specs.Trees.{ExportTree, SupplyTree, PartTree}
 
 -- ---- index spaces ("Index Spaces")
 
@@ -21,8 +20,16 @@ next_index c sorts.Instance = c.instances
 
 -- The counts behind one more.
 abbrev pub counted : Counts → Sort → Counts
-counted c sorts.Func = record { functions = c.functions + 1; instances = c.instances }
-counted c sorts.Instance = record { functions = c.functions; instances = c.instances + 1 }
+counted c sorts.Func = record {
+  functions = c.functions + 1;
+  instances = c.instances;
+  fronts = c.fronts;
+}
+counted c sorts.Instance = record {
+  functions = c.functions;
+  instances = c.instances + 1;
+  fronts = c.fronts;
+}
 
 -- The counts behind an alias of each.
 abbrev pub all_counted : Counts → List ExportTree → Counts
@@ -34,13 +41,20 @@ abbrev pub exports_of : List SupplyTree → List ExportTree
 exports_of xs = map (λ x. x.export) xs
 
 -- The index spaces so far: how many functions and instances there are, and the index of the
--- instance of each part. A part is the component with its number as index.
+-- instance of each part, behind that of what is imported, where there is one.
 pub record Spaces : Type 0 where
   pub counts : Counts
   pub places : List ℕ
 
 abbrev pub no_spaces : Spaces
-no_spaces = record { counts = record { functions = 0; instances = 0 }; places = [] }
+no_spaces = record {
+  counts = record { functions = 0; instances = 0; fronts = 0 };
+  places = [];
+}
+
+-- The component of the next part: the places of instances that are of parts are those before it.
+abbrev pub next_component : Counts → List ℕ → ℕ
+next_component c places = length places - c.fronts
 
 -- The index spaces behind a part: its aliases, and then its instance.
 abbrev pub after_part : Spaces → PartTree → Spaces
@@ -91,7 +105,7 @@ instance_spelled component c xs = section_spelled 0x05 (0x01 ∷ 0x00 ∷ (short
 -- A part: its component, the aliases of what it is given, its instance.
 abbrev pub part_spelled : Spaces → PartTree → List ℕ
 part_spelled s p = section_spelled 0x04 p.file ++ (aliases_spelled s.places p.arguments
-    ++ instance_spelled (length s.places) s.counts p.arguments)
+    ++ instance_spelled (next_component s.counts s.places) s.counts p.arguments)
 
 -- What is exported: each behind the byte of a plain name (`exportname'`), with no description
 -- (`export`).
@@ -112,12 +126,7 @@ body_spelled s (p ∷ ps) exports = part_spelled s p ++ body_spelled (after_part
 abbrev pub custom_spelled : List ℕ → List ℕ
 custom_spelled contents = section_spelled 0x00 contents
 
--- A bundle: the preamble of components, the parts, the exports, the custom sections.
-unfoldable pub spelled : BundleTree → List ℕ
-spelled b = BUNDLE_PREAMBLE
-    ++ (body_spelled no_spaces b.parts b.exports ++ flat_map custom_spelled b.customs)
-
--- ---- which bundles have a spelling
+-- ---- what has a spelling
 
 -- Names that are texts, and an export of one of the first parts, so many.
 pub record IsSupply (parts : ℕ) (x : SupplyTree) : Type 0 where
@@ -130,10 +139,3 @@ abbrev pub AreSupplied : ℕ → List PartTree → List SupplyTree → Type 0
 AreSupplied parts [] exports = AllByRecursion (IsSupply parts) exports
 AreSupplied parts (p ∷ ps) exports =
     AllByRecursion (IsSupply parts) p.arguments × AreSupplied (parts + 1) ps exports
-
--- A bundle of no more parts than it may have, which provides before it uses, and whose size is a
--- number of 32 bits.
-pub record IsBundle (b : BundleTree) : Type 0 where
-  pub few : length b.parts ≤ MAX_PARTS
-  pub supplied : AreSupplied 0 b.parts b.exports
-  pub short : length (spelled b) < 2 ^ 32

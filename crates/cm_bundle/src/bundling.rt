@@ -4,9 +4,8 @@ ghost use Rattle.std.specs.Prelude.{◌≡◌, ◌⊎◌, List, ℕ, length, map
 ghost use Rattle.cm_match_model.specs.Imports.{LinkSet};
 ghost use Rattle.cm_match.specs.Linked.{set_in};
 ghost use Rattle.cm_bundle.specs.Answers.{Accepts, Refuses};
-ghost use Rattle.cm_bundle.specs.Grammar.{FirstFault};
-ghost use Rattle.cm_bundle.specs.Spelled.{IsBundle, spelled};
-ghost use Rattle.cm_bundle.specs.Trees.{bundle_tree, name_tree, NameTree};
+ghost use Rattle.cm_bundle.specs.Bundles.{FirstFault, IsBundle, spelled};
+ghost use Rattle.cm_bundle.specs.Trees.{bundle_tree, group_tree, name_tree, GroupTree, NameTree};
 ghost use Rattle.cm_bundle.specs.declared.fault.BundleReason.{BundleReason};
 ghost use Rattle.cm_bundle.specs.declared.fault.BundleReason.TheVariants as reasons;
 ghost use Rattle.cm_bundle.specs.Bundled.{bundle_of, bundle_with};
@@ -14,9 +13,10 @@ ghost use Rattle.cm_bundle.specs.Names.{names_of};
 ghost use Rattle.cm_bundle.specs.BundlingRefusals.{AreComplete, IsRefused, IsWritten, IsUnwritten};
 ghost use Rattle.cm_bundle.specs.declared.bundling.BundlingFault.TheVariants as faults;
 
-use crate::bundled::bundle_with;
+use crate::bundled::{bundle_with, first_part};
 use crate::fault::BundleFault;
-use crate::form::{Bundle, PartName};
+use crate::fitting::front_fits;
+use crate::form::{Bundle, ImportGroup, PartName};
 use crate::names::names_section;
 use crate::reading::read;
 use crate::writing::{WriteFault, write};
@@ -33,6 +33,9 @@ pub enum BundlingFault {
     /// The set has no component of this number.
     #[error("no component of this number")]
     NoSuchComponent,
+    /// The front does not import what component 0 exports, in order and under the same names.
+    #[error("a front that does not import what component 0 exports")]
+    OtherFront,
     /// The bundle takes more than 4,294,967,295 bytes.
     #[error("more than 4294967295 bytes")]
     TooLong,
@@ -54,84 +57,106 @@ impl From<AllocError> for BundlingFault {
 /// under the import's name; the bundle exports what the component `exporter` does, counted from 0;
 /// and its parts have these names, where there are any. Each file is copied once.
 ///
-/// `OtherFiles` comes first, then `NoSuchComponent`; no memory is taken before these. `TooLong`
-/// comes where the bundle would have more bytes than a file may have.
+/// Where there is no front the bundle is closed. With one it is open: component 0 of the set stands
+/// for what it imports, and has no file; who is linked to an export of it is given the import of
+/// this name of the bundle.
+///
+/// `OtherFiles` comes first, then `NoSuchComponent`; no memory is taken before these. `OtherFront`
+/// comes then. `TooLong` comes where the bundle would have more bytes than a file may have.
 pub fn bundle(
     alloc: Global,
     linked: &Linked<'_>,
+    front: &[ImportGroup<'_>],
     files: &[&[u8]],
     exporter: usize,
     names: &[PartName<'_>],
 ) -> Result<Vec<u8>, BundlingFault>
-    ensures complete { IfOk result (λ _.
-        AreComplete (set_in linked.now) (map (λ f. f.now) files.now) exporter) }
+    ensures complete { IfOk result (λ _. AreComplete (set_in linked.now) (map group_tree front.now)
+        (map (λ f. f.now) files.now) exporter) }
     ensures spelled { IfOk result (λ v. v.items ≡ spelled (bundle_of (set_in linked.now)
-        (map (λ f. f.now) files.now) exporter (map name_tree names.now))) }
+        (map group_tree front.now) (map (λ f. f.now) files.now) exporter
+        (map name_tree names.now))) }
     ensures bundle { IfOk result (λ _. IsBundle (bundle_of (set_in linked.now)
-        (map (λ f. f.now) files.now) exporter (map name_tree names.now))) }
+        (map group_tree front.now) (map (λ f. f.now) files.now) exporter
+        (map name_tree names.now))) }
     // What is read of its names are the names that it was given.
     ensures names { IfOk result (λ _. map name_tree names.now ≡ names_of (bundle_of
-        (set_in linked.now) (map (λ f. f.now) files.now) exporter (map name_tree names.now))) }
-    ensures refused { IfErr result (λ e.
-        IsRefused e (set_in linked.now) (map (λ f. f.now) files.now) exporter (bundle_of
-        (set_in linked.now) (map (λ f. f.now) files.now) exporter (map name_tree names.now))) }
+        (set_in linked.now) (map group_tree front.now) (map (λ f. f.now) files.now) exporter
+        (map name_tree names.now))) }
+    ensures refused { IfErr result (λ e. IsRefused e (set_in linked.now) (map group_tree front.now)
+        (map (λ f. f.now) files.now) exporter (bundle_of (set_in linked.now)
+        (map group_tree front.now) (map (λ f. f.now) files.now) exporter
+        (map name_tree names.now))) }
 {
     let count = linked.components().len();
-    if files.len() != count {
+    if files.len().checked_add(first_part(front)) != Some(count) {
         return Err(BundlingFault::OtherFiles);
     }
     if count <= exporter {
         return Err(BundlingFault::NoSuchComponent);
     }
-    write_named(alloc, linked, files, exporter, names)
+    if !front_fits(alloc, linked, front)? {
+        return Err(BundlingFault::OtherFront);
+    }
+    write_named(alloc, linked, front, files, exporter, names)
 }
 
 /// The bundle of a complete set whose parts have these names.
 fn write_named(
     alloc: Global,
     linked: &Linked<'_>,
+    front: &[ImportGroup<'_>],
     files: &[&[u8]],
     exporter: usize,
     names: &[PartName<'_>],
 ) -> Result<Vec<u8>, BundlingFault>
-    requires { AreComplete (set_in linked.now) (map (λ f. f.now) files.now) exporter }
+    requires { AreComplete (set_in linked.now) (map group_tree front.now)
+        (map (λ f. f.now) files.now) exporter }
     ensures written { IfOk result (λ v. IsWritten (bundle_of (set_in linked.now)
-        (map (λ f. f.now) files.now) exporter (map name_tree names.now)) v.items) }
+        (map group_tree front.now) (map (λ f. f.now) files.now) exporter
+        (map name_tree names.now)) v.items) }
     ensures names { IfOk result (λ _. map name_tree names.now ≡ names_of (bundle_of
-        (set_in linked.now) (map (λ f. f.now) files.now) exporter (map name_tree names.now))) }
+        (set_in linked.now) (map group_tree front.now) (map (λ f. f.now) files.now) exporter
+        (map name_tree names.now))) }
     ensures refused { IfErr result (λ e. IsUnwritten e (bundle_of (set_in linked.now)
-        (map (λ f. f.now) files.now) exporter (map name_tree names.now))) }
+        (map group_tree front.now) (map (λ f. f.now) files.now) exporter
+        (map name_tree names.now))) }
 {
     if names.is_empty() {
-        return write_set(alloc, linked, files, exporter, &[]);
+        return write_set(alloc, linked, front, files, exporter, &[]);
     }
     let section = names_section(alloc, names)?;
-    write_set(alloc, linked, files, exporter, &[section.as_slice()])
+    write_set(alloc, linked, front, files, exporter, &[section.as_slice()])
 }
 
 /// The bundle of a complete set with these custom sections.
 fn write_set(
     alloc: Global,
     linked: &Linked<'_>,
+    front: &[ImportGroup<'_>],
     files: &[&[u8]],
     exporter: usize,
     customs: &[&[u8]],
 ) -> Result<Vec<u8>, BundlingFault>
-    requires { AreComplete (set_in linked.now) (map (λ f. f.now) files.now) exporter }
+    requires { AreComplete (set_in linked.now) (map group_tree front.now)
+        (map (λ f. f.now) files.now) exporter }
     ensures written { IfOk result (λ v. IsWritten (bundle_with (set_in linked.now)
-        (map (λ f. f.now) files.now) exporter (map (λ c. c.now) customs.now)) v.items) }
+        (map group_tree front.now) (map (λ f. f.now) files.now) exporter
+        (map (λ c. c.now) customs.now)) v.items) }
     ensures refused { IfErr result (λ e. IsUnwritten e (bundle_with (set_in linked.now)
-        (map (λ f. f.now) files.now) exporter (map (λ c. c.now) customs.now))) }
+        (map group_tree front.now) (map (λ f. f.now) files.now) exporter
+        (map (λ c. c.now) customs.now))) }
 {
     // That the set can be linked is known of it once its components are looked at.
     let _components = linked.components();
-    let bundle = bundle_with(alloc, linked, files, exporter, customs)?;
+    let bundle = bundle_with(alloc, linked, front, files, exporter, customs)?;
     match write(alloc, &bundle) {
         Ok(file) => Ok(file),
         Err(WriteFault::TooLong) => Err(BundlingFault::TooLong),
         Err(WriteFault::Memory) => Err(BundlingFault::Memory),
         Err(WriteFault::TooManyParts) => unreachable!(),
         Err(WriteFault::NoSuchPart) => unreachable!(),
+        Err(WriteFault::BadFront) => unreachable!(),
     }
 }
 
@@ -143,13 +168,13 @@ pub fn unbundle(alloc: Global, bytes: &[u8]) -> Result<Bundle<'_>, BundleFault>
     ensures bundle { IfOk result (λ b. IsBundle (bundle_tree b)) }
     ensures spelled { IfOk result (λ b. bytes.now ≡ spelled (bundle_tree b)) }
     // A bundle of a set is read as that, unless memory runs out: its files, and its plan by names.
-    ensures whole { (set : LinkSet) (files : List (List ℕ)) (exporter : ℕ)
-        (names : List NameTree) → IsBundle (bundle_of set files exporter names)
-        → bytes.now ≡ spelled (bundle_of set files exporter names)
-        → Accepts result (bundle_of set files exporter names) }
-    ensures files { (set : LinkSet) (files : List (List ℕ)) (exporter : ℕ)
-        (names : List NameTree) → IsBundle (bundle_of set files exporter names)
-        → bytes.now ≡ spelled (bundle_of set files exporter names)
+    ensures whole { (set : LinkSet) (front : List GroupTree) (files : List (List ℕ)) (exporter : ℕ)
+        (names : List NameTree) → IsBundle (bundle_of set front files exporter names)
+        → bytes.now ≡ spelled (bundle_of set front files exporter names)
+        → Accepts result (bundle_of set front files exporter names) }
+    ensures files { (set : LinkSet) (front : List GroupTree) (files : List (List ℕ)) (exporter : ℕ)
+        (names : List NameTree) → IsBundle (bundle_of set front files exporter names)
+        → bytes.now ≡ spelled (bundle_of set front files exporter names)
         → IfOk result (λ b. map (λ p. p.file.now) b.parts.items ≡ files) }
     // A fault is the first one, at its place, and the first fault is given.
     ensures fault { IfErr result

@@ -1,6 +1,7 @@
 //! Bytes that name a form.
 
 ghost use Rattle.std.specs.Prelude.{◌≡◌};
+ghost use Rattle.cm_bundle.specs.Fronts.{in_front_of};
 ghost use Rattle.cm_bundle.specs.Grammar.{sort_of, next_of};
 
 use crate::fault::BundleReason;
@@ -23,6 +24,27 @@ impl Code<BundleReason> for Next {
         match byte {
             0x04 => Ok(Next::Part),
             0x06 => Ok(Next::Exports),
+            _ => Err(BundleReason::UnknownCode),
+        }
+    }
+}
+
+/// What begins with a section in front of the parts of an open bundle.
+#[derive(Clone, Copy)]
+pub enum InFront {
+    /// A group, with its types.
+    Group,
+    /// The instance of what is imported.
+    Instance,
+}
+
+impl Code<BundleReason> for InFront {
+    ghost table = { in_front_of };
+
+    fn from_byte(byte: u8) -> Result<Self, BundleReason> {
+        match byte {
+            0x07 => Ok(InFront::Group),
+            0x05 => Ok(InFront::Instance),
             _ => Err(BundleReason::UnknownCode),
         }
     }

@@ -23,7 +23,8 @@ pub enum BundleReason {
     NoSuchPart,
     /// A name that is not UTF-8: its first byte.
     BadUtf8,
-    /// More than 1,000 parts: the byte behind the first one over, also where that byte is missing.
+    /// More than 1,000 parts, or groups of imports: the byte behind the first one over, also where
+    /// that byte is missing.
     TooManyParts,
     /// Bytes behind the exports: the first one.
     Surplus,
@@ -31,13 +32,16 @@ pub enum BundleReason {
     TooLong,
     /// There was no memory. Nothing is said of the place.
     Memory,
+    /// A section in front of the parts that is not one of imports of functions and instances, or of
+    /// aliases of types, where it has to be: the first byte of its size.
+    BadFront,
 }
 
 impl BundleReason {
     ghost use Rattle.std.specs.Prelude.{◌≡◌};
     ghost use Rattle.cm_bundle.specs.Reasons.{reason_number};
 
-    /// The number by which the reason is known, from 1 for `BadPreamble` to 12 for `Memory`.
+    /// The number by which the reason is known, from 1 for `BadPreamble` to 13 for `BadFront`.
     pub fn number(self) -> u8
         ensures { result ≡ reason_number self }
     {
@@ -54,6 +58,7 @@ impl BundleReason {
             BundleReason::Surplus => 10,
             BundleReason::TooLong => 11,
             BundleReason::Memory => 12,
+            BundleReason::BadFront => 13,
         }
     }
 
@@ -72,6 +77,7 @@ impl BundleReason {
             BundleReason::Surplus => "Surplus",
             BundleReason::TooLong => "TooLong",
             BundleReason::Memory => "Memory",
+            BundleReason::BadFront => "BadFront",
         }
     }
 
@@ -90,6 +96,7 @@ impl BundleReason {
             BundleReason::Surplus => "bytes behind the exports",
             BundleReason::TooLong => "more than 4294967295 bytes",
             BundleReason::Memory => "no memory",
+            BundleReason::BadFront => "no imports, or no aliases of types, where they have to be",
         }
     }
 }

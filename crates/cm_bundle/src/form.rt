@@ -15,6 +15,8 @@ pub const NAMES_HEAD: [u8; 16] = [
 /// A set of components as one.
 #[derive(Drop)]
 pub struct Bundle<'a> {
+    /// What the bundle imports: nothing where it is closed, which means that this is empty.
+    pub front: Vec<ImportGroup<'a>>,
     pub parts: Vec<Part<'a>>,
     /// What the bundle exports.
     pub exports: Vec<Supply<'a>>,
@@ -22,7 +24,42 @@ pub struct Bundle<'a> {
     pub customs: Vec<&'a [u8]>,
 }
 
+/// Three sections in front of the parts of an open bundle, by their contents.
+#[derive(Clone, Copy)]
+pub struct ImportGroup<'a> {
+    /// Types (Binary.md, `type`), which are not looked at.
+    pub types: &'a [u8],
+    /// Imports of functions and instances (`import`).
+    pub imports: &'a [u8],
+    /// Aliases of types that imported instances export (`alias`).
+    pub aliases: &'a [u8],
+}
+
+/// What a bundle imports under a name.
+#[derive(Clone, Copy)]
+pub struct BundleImport<'a> {
+    pub name: &'a str,
+    pub sort: Sort,
+    /// The index of its type among those of the bundle.
+    pub ty: u32,
+}
+
+/// A type that an imported instance exports.
+#[derive(Clone, Copy)]
+pub struct TypeAlias<'a> {
+    /// The index of the instance.
+    pub instance: u32,
+    pub name: &'a str,
+}
+
 /// A bundle without custom sections.
+#[derive(Drop)]
+pub struct Content<'a> {
+    pub front: Vec<ImportGroup<'a>>,
+    pub body: Body<'a>,
+}
+
+/// The parts of a bundle, and what it exports.
 #[derive(Drop)]
 pub struct Body<'a> {
     pub parts: Vec<Part<'a>>,
@@ -54,10 +91,11 @@ pub struct Supply<'a> {
     pub export: PartExport<'a>,
 }
 
-/// An export of a part.
+/// An export of a part, or an import of the bundle.
 #[derive(Clone, Copy)]
 pub struct PartExport<'a> {
-    /// The part, counted from 0.
+    /// The part. They are counted from 0, and in an open bundle from 1: there 0 stands for what the
+    /// bundle imports.
     pub part: usize,
     pub sort: Sort,
     pub name: &'a str,

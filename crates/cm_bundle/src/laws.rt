@@ -3,7 +3,7 @@
 
 ghost use Rattle.std.specs.Prelude.{◌≡◌, ℕ, List, Some, map, slice_get};
 ghost use Rattle.std.specs.List.{AllByRecursion};
-ghost use Rattle.cm_bundle.specs.Trees.{SupplyTree, NameTree};
+ghost use Rattle.cm_bundle.specs.Trees.{GroupTree, SupplyTree, NameTree};
 ghost use Rattle.cm_match_model.specs.Imports.{LinkSet, imports_of};
 ghost use Rattle.cm_match_model.specs.Links.{CanBeLinked};
 ghost use Rattle.cm_validate_model.specs.Spaces.{Spaces};
@@ -31,6 +31,7 @@ pub fn arguments_are_one_for_each_import()
 
 /// The files of a bundle are those of its set, in order.
 pub fn files_are_kept()
-    ensures { (set : LinkSet) (files : List (List ℕ)) (exporter : ℕ) (names : List NameTree)
-        → map (λ p. p.file) (bundle_of set files exporter names).parts ≡ files }
+    ensures { (set : LinkSet) (front : List GroupTree) (files : List (List ℕ)) (exporter : ℕ)
+        (names : List NameTree)
+        → map (λ p. p.file) (bundle_of set front files exporter names).parts ≡ files }
 {}

@@ -9,9 +9,13 @@ mod bundled;
 mod bundling;
 mod checking;
 mod codes;
+mod contents;
 mod customs;
 mod fault;
+mod fitting;
 mod form;
+mod front_items;
+mod fronts;
 pub mod laws;
 mod names;
 mod numbers;
@@ -25,7 +29,11 @@ mod writing;
 
 pub use bundling::{BundlingFault, bundle, unbundle};
 pub use fault::{BundleFault, BundleReason};
-pub use form::{BUNDLE_PREAMBLE, Bundle, MAX_PARTS, Part, PartExport, PartName, Sort, Supply};
+pub use form::{
+    BUNDLE_PREAMBLE, Bundle, BundleImport, ImportGroup, MAX_PARTS, Part, PartExport, PartName, Sort,
+    Supply,
+};
+pub use front_items::imports_of;
 pub use names::part_names;
 pub use reading::read;
 pub use writing::{WriteFault, write};

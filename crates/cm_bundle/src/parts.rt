@@ -3,8 +3,8 @@
 ghost use Rattle.std.specs.Prelude.{◌≡◌, ◌+◌, ◌≤◌, ◌<◌, ◌*◌, ◌^◌, length, map, IfOk};
 ghost use Rattle.cm_binary_grammar.specs.Reading.{Reads};
 ghost use Rattle.cm_bundle.specs.Grammar.{part, exports, body};
-ghost use Rattle.cm_bundle.specs.Room.{ReadsPart};
-ghost use Rattle.cm_bundle.specs.Spelled.{Spaces, no_spaces};
+ghost use Rattle.cm_bundle.specs.Room.{ReadsPart, spaces_of};
+ghost use Rattle.cm_bundle.specs.Spelled.{Spaces};
 ghost use Rattle.cm_bundle.specs.Trees.{body_tree, supply_tree};
 
 use crate::aliases::read_aliases;
@@ -12,7 +12,7 @@ use crate::codes::Next;
 use crate::fault::BundleReason;
 use crate::form::{Body, MAX_PARTS, Part, Sort, Supply};
 use crate::numbers::read_bytes;
-use crate::spaces::Counts;
+use crate::spaces::{Counts, FrontSpaces};
 use crate::supplies::{read_export_section, read_instances};
 use cm_binary_grammar::{Cursor, ReadError};
 use std::alloc::Global;
@@ -36,7 +36,8 @@ fn read_part<'a>(
     bytes.byte(0x06, BundleReason::UnknownCode)?;
     let aliased = read_aliases(alloc, bytes, places)?;
     bytes.byte(0x05, BundleReason::UnknownCode)?;
-    let arguments = read_instances(alloc, bytes, places.len(), counts, &aliased)?;
+    let component = counts.next_component(places);
+    let arguments = read_instances(alloc, bytes, component, counts, &aliased)?;
     let counts = counts.all_counted(&arguments);
     Ok((Part { file, arguments }, counts))
 }
@@ -60,19 +61,20 @@ fn read_exports<'a>(
     read_export_section(alloc, bytes, counts, &aliased)
 }
 
-/// Reads parts, and the exports behind them.
+/// Reads parts, and the exports behind them, at these index spaces.
 pub fn read_body<'a>(
     alloc: Global,
     bytes: &mut Cursor<'a, BundleReason>,
+    spaces: FrontSpaces,
 ) -> Result<Body<'a>, ReadError<BundleReason>>
-    ensures read { Reads (body (MAX_PARTS + 1) no_spaces) body_tree bytes.old bytes.new result }
+    requires functions { spaces.counts.functions < 2 ^ 61 }
+    requires instances { spaces.counts.instances < 2 ^ 61 }
+    ensures read { Reads (body (MAX_PARTS + 1) (spaces_of spaces.entry))
+        body_tree bytes.old bytes.new result }
     ensures end { bytes.new.end ≡ bytes.old.end }
 {
-    let mut counts = Counts {
-        functions: 0,
-        instances: 0,
-    };
-    let mut places = Vec::new(alloc);
+    let mut counts = spaces.counts;
+    let mut places = spaces.places;
     let mut parts = Vec::new(alloc);
     for _ in 0..MAX_PARTS + 1 {
         let next: Next = bytes.code()?;

@@ -5,16 +5,15 @@ ghost use Rattle.cm_binary_grammar.specs.Faults.{Gives};
 ghost use Rattle.cm_binary_grammar.specs.Reading.{IsInside};
 ghost use Rattle.cm_binary_grammar.specs.declared.fault.End.TheVariants as end;
 ghost use Rattle.cm_bundle.specs.Answers.{Accepts, Refuses, Answers};
-ghost use Rattle.cm_bundle.specs.Grammar.{bundle, FirstFault};
-ghost use Rattle.cm_bundle.specs.Spelled.{spelled, IsBundle};
+ghost use Rattle.cm_bundle.specs.Bundles.{bundle, spelled, FirstFault, IsBundle};
 ghost use Rattle.cm_bundle.specs.Trees.{BundleTree, bundle_tree};
 ghost use Rattle.cm_bundle.specs.declared.fault.BundleReason.{BundleReason};
 ghost use Rattle.cm_bundle.specs.declared.fault.BundleReason.TheVariants as reasons;
 
+use crate::contents::read_content;
 use crate::customs::read_customs;
 use crate::fault::{BundleFault, BundleReason};
 use crate::form::{BUNDLE_PREAMBLE, Bundle};
-use crate::parts::read_body;
 use cm_binary_grammar::{Cursor, End, ReadError};
 use std::alloc::Global;
 
@@ -69,18 +68,19 @@ fn read_inside(alloc: Global, bytes: &[u8]) -> Result<Bundle<'_>, ReadError<Bund
     read_whole(alloc, bytes)
 }
 
-/// Reads the preamble, the body, and the custom sections.
-#[tactic(auto, unfolding(crate::specs::Grammar::bundle))]
+/// Reads the preamble, the front, the body, and the custom sections.
+#[tactic(auto, unfolding(crate::specs::Bundles::bundle))]
 fn read_whole(alloc: Global, bytes: &[u8]) -> Result<Bundle<'_>, ReadError<BundleReason>>
     ensures { Gives bundle_tree result (bundle.reads (end.Cut reasons.Truncated) bytes.now) }
 {
     let mut cursor = Cursor::new(bytes, End::Cut(BundleReason::Truncated));
     cursor.fixed(&BUNDLE_PREAMBLE, BundleReason::BadPreamble)?;
-    let body = read_body(alloc, &mut cursor)?;
+    let content = read_content(alloc, &mut cursor)?;
     let customs = read_customs(alloc, cursor.rest, cursor.end)?;
     Ok(Bundle {
-        parts: body.parts,
-        exports: body.exports,
+        front: content.front,
+        parts: content.body.parts,
+        exports: content.body.exports,
         customs,
     })
 }

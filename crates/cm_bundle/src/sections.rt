@@ -2,6 +2,7 @@
 
 ghost use Rattle.std.specs.Prelude.{◌≡◌, [], ◌∷◌, ◌++◌, ◌<◌, ◌^◌, length, map, slice_index, OnOk};
 ghost use Rattle.cm_binary_grammar.specs.Spelling.{vec_spelling};
+ghost use Rattle.cm_bundle.specs.Fronts.{imported_spelled};
 ghost use Rattle.cm_bundle.specs.Room.{HasRoom, AreEarlier};
 ghost use Rattle.cm_bundle.specs.Spelled.{section_spelled, alias_spelled, aliases_spelled};
 ghost use Rattle.cm_bundle.specs.Spelled.{exports_of, supply_spelled, supplies_spelled};
@@ -9,7 +10,7 @@ ghost use Rattle.cm_bundle.specs.Spelled.{instance_spelled, exported_spelled};
 ghost use Rattle.cm_bundle.specs.Trees.{export_tree, supply_tree};
 
 use crate::form::{PartExport, Supply};
-use crate::spaces::Counts;
+use crate::spaces::{Counts, FRONT_COUNTS};
 use crate::supplies::sort_code;
 use cm_binary_grammar::write_blob;
 use cm_leb::formats::write_count;
@@ -124,6 +125,23 @@ pub fn write_instance(
     write_count(&mut contents, supplies.len())?;
     write_supplies(&mut contents, &[], &[], counts, supplies)?;
     write_section(out, 0x05, &contents)
+}
+
+/// Appends the instance of what is imported, behind the id of its section.
+pub fn write_imported(
+    alloc: Global,
+    out: &mut Vec<u8>,
+    supplies: &[Supply<'_>],
+) -> Result<(), AllocError>
+    requires { length supplies.now < 2 ^ 60 }
+    ensures { OnOk result (out.new.items
+        ≡ out.old.items ++ imported_spelled (map supply_tree supplies.now)) }
+{
+    let mut contents = Vec::new(alloc);
+    contents.extend_from_slice(&[0x01, 0x01])?;
+    write_count(&mut contents, supplies.len())?;
+    write_supplies(&mut contents, &[0x00], &[], FRONT_COUNTS, supplies)?;
+    write_blob(out, &contents)
 }
 
 /// Appends the section of the exports.

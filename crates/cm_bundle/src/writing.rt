@@ -2,24 +2,30 @@
 
 ghost use Rattle.std.specs.Prelude.{◌≡◌, ◌≤◌, ◌<◌, ◌^◌, length, map, IfOk, IfErr};
 ghost use Rattle.cm_bundle.specs.Refusals.{IsRefused, WritesPart, WritesExports, WritesBody};
-ghost use Rattle.cm_bundle.specs.Spelled.{IsBundle, spelled};
+ghost use Rattle.cm_bundle.specs.Bundles.{IsBundle, spelled};
+ghost use Rattle.cm_bundle.specs.Room.{spaces_of};
 ghost use Rattle.cm_bundle.specs.Trees.{bundle_tree, part_tree, supply_tree};
 ghost use Rattle.cm_bundle.specs.declared.writing.WriteFault.TheVariants.{Memory};
 
 use crate::checking::are_earlier;
 use crate::customs::write_customs;
 use crate::form::{BUNDLE_PREAMBLE, Bundle, MAX_PARTS, Part, Sort, Supply};
+use crate::fronts::write_front;
 use crate::sections::{write_aliases, write_exported, write_instance, write_section};
-use crate::spaces::Counts;
+use crate::spaces::{Counts, FrontSpaces};
 use std::alloc::{AllocError, AllocFailed, Global};
 use thiserror::Error;
 
 /// Why a bundle is not written.
 #[derive(Clone, Copy, Debug, PartialEq, Eq, Drop, Error)]
 pub enum WriteFault {
-    /// More than 1,000 parts.
+    /// More than 1,000 parts, or groups of imports.
     #[error("more than 1000 parts")]
     TooManyParts,
+    /// A section of the front that is not one of imports, or of aliases of types, where it has to
+    /// be.
+    #[error("a front that does not import")]
+    BadFront,
     /// A part is given an export of no earlier part, or what is exported is of no part.
     #[error("an export of no earlier part")]
     NoSuchPart,
@@ -55,12 +61,13 @@ pub fn write(alloc: Global, bundle: &Bundle<'_>) -> Result<Vec<u8>, WriteFault>
     // What is refused is no bundle, unless memory ran out.
     ensures refused { IfErr result (λ e. IsRefused e (bundle_tree bundle.now)) }
 {
-    if bundle.parts.len() > MAX_PARTS {
+    if bundle.parts.len() > MAX_PARTS || bundle.front.len() > MAX_PARTS {
         return Err(WriteFault::TooManyParts);
     }
     let mut out = Vec::with_capacity(alloc, capacity(&bundle.parts))?;
     out.extend_from_slice(&BUNDLE_PREAMBLE)?;
-    write_body(alloc, &mut out, bundle)?;
+    let spaces = write_front(alloc, &mut out, &bundle.front)?;
+    write_body(alloc, &mut out, spaces, bundle)?;
     write_customs(&mut out, &bundle.customs)?;
     if out.len() > u32::MAX as usize {
         return Err(WriteFault::TooLong);
@@ -78,16 +85,21 @@ fn capacity(parts: &[Part<'_>]) -> usize {
     bytes
 }
 
-/// Appends the parts and the exports.
-fn write_body(alloc: Global, out: &mut Vec<u8>, bundle: &Bundle<'_>) -> Result<(), WriteFault>
-    requires { length bundle.now.parts.items ≤ MAX_PARTS }
-    ensures { WritesBody (bundle_tree bundle.now) out.old.items out.new.items result }
+/// Appends the parts and the exports, at these index spaces.
+fn write_body(
+    alloc: Global,
+    out: &mut Vec<u8>,
+    spaces: FrontSpaces,
+    bundle: &Bundle<'_>,
+) -> Result<(), WriteFault>
+    requires few { length bundle.now.parts.items ≤ MAX_PARTS }
+    requires functions { spaces.counts.functions < 2 ^ 61 }
+    requires instances { spaces.counts.instances < 2 ^ 61 }
+    ensures { WritesBody (spaces_of spaces.entry) (bundle_tree bundle.now)
+        out.old.items out.new.items result }
 {
-    let mut counts = Counts {
-        functions: 0,
-        instances: 0,
-    };
-    let mut places = Vec::new(alloc);
+    let mut counts = spaces.counts;
+    let mut places = spaces.places;
     for part in &bundle.parts {
         let aliased = write_part(alloc, out, counts, &places, part)?;
         places.push(aliased.instances)?;
@@ -116,7 +128,8 @@ fn write_part(
     }
     write_section(out, 0x04, part.file)?;
     write_aliases(alloc, out, places, &part.arguments)?;
-    write_instance(alloc, out, places.len(), counts, &part.arguments)?;
+    let component = counts.next_component(places);
+    write_instance(alloc, out, component, counts, &part.arguments)?;
     Ok(counts.all_counted(&part.arguments))
 }
 

@@ -2,7 +2,7 @@ use Rattle.std.proofs.Common.{arith}
 use Rattle.cm_binary_grammar.specs.declared.fault.End.TheVariants as end
 use Rattle.cm_binary_grammar.proofs.ReadingLaws.{inside_part}
 use Rattle.cm_bundle.specs.declared.fault.BundleReason.TheVariants.{Truncated}
-use Rattle.cm_bundle.specs.Grammar.{bundle}
+use Rattle.cm_bundle.specs.Bundles.{bundle}
 use Rattle.cm_bundle.specs.Trees.{bundle_tree}
 use Rattle.cm_bundle.proofs.LawfulBundle.{bundle_lawful}
 use Rattle.cm_bundle.proofs.reading.read_inside.Goals as goal
