@@ -1,18 +1,22 @@
 -- Bytes that the grammar takes as a bundle are its spelling, and it is a bundle.
-use Rattle.std.proofs.Common.{◌≡◌, ℕ, zero, suc, ◌+◌, ◌<◌, ◌^◌, List, [], ◌∷◌, ◌++◌, length, Ok, refl, sym, ap, subst, ◌∙◌, arith, inl, inr}
+use Rattle.std.proofs.Common.{◌≡◌, ℕ, zero, suc, ◌+◌, ◌<◌, ◌≤◌, ◌^◌, List, [], ◌∷◌, ◌++◌, length, get_or, Bool, true, false, Ok, refl, sym, ap, subst, ◌∙◌, append_assoc, arith, inl, inr}
+use Rattle.std.specs.Prelude.{◌==◌}
+use Rattle.cm_lemmas.proofs.Numbers.{eq_of}
 use Rattle.std.proofs.lemmas.List.{append-nil, length-append}
 use Rattle.std.specs.List.{flat_map}
 use Rattle.cm_binary_grammar.specs.Spelling.{blob_spelling}
 use Rattle.cm_binary_grammar.specs.Whole.{SpellsEach}
-use Rattle.cm_bundle.specs.Bundles.{IsBundle, bundle, spelled}
+use Rattle.cm_bundle.specs.Bundles.{IsBundle, behind_front, open_content, content_of, content, bundle, spelled}
 use Rattle.cm_bundle.specs.declared.form.TheConstants.{BUNDLE_PREAMBLE, MAX_PARTS}
 use Rattle.cm_bundle.specs.declared.codes.Next.{Next}
 use Rattle.cm_bundle.specs.declared.codes.Next.TheVariants as next
-use Rattle.cm_bundle.specs.Trees.{BodyTree, BundleTree}
-use Rattle.cm_bundle.specs.Spelled.{Spaces, no_spaces, exports_of, all_counted, part_spelled, body_spelled, after_part, custom_spelled, AreSupplied}
+use Rattle.cm_bundle.specs.Trees.{GroupTree, BodyTree, ContentTree, BundleTree}
+use Rattle.cm_bundle.specs.Fronts.{front_spelled, spaces_behind, AreGroups}
+use Rattle.cm_bundle.specs.Spelled.{Spaces, exports_of, all_counted, part_spelled, body_spelled, after_part, custom_spelled, AreSupplied}
 use Rattle.cm_bundle.specs.Grammar.{next_of, behind, body, custom, customs}
 use Rattle.cm_bundle.specs.declared.fault.BundleReason.TheVariants as reasons
 use Rattle.cm_bundle.proofs.EitherCode.{either_code}
+use Rattle.cm_bundle.proofs.FrontIs.{whole_front, front_is}
 use Rattle.cm_bundle.proofs.SpellingIs.{two, last, bytes_is, part_is, exports_are}
 
 -- What a body is known to be.
@@ -74,6 +78,48 @@ customs_are : (xs : List (List ℕ)) (bytes : List ℕ) → customs.Spells xs by
 unfolding customs
 customs_are xs bytes h = each_is xs bytes h
 
+-- ---- what stands in a bundle
+
+-- What is imported, and what stands behind it, are known to be this.
+pub record IsContent (c : ContentTree) (bytes : List ℕ) : Type 0 where
+  pub spelled : bytes ≡ front_spelled c.front ++ body_spelled (spaces_behind c.front) c.body.parts c.body.exports
+  pub groups : AreGroups c.front
+  pub supplied : AreSupplied (length (spaces_behind c.front).places) c.body.parts c.body.exports
+  pub few : length c.body.parts < MAX_PARTS + 1
+
+behind_is_content : (gs : List GroupTree) (c : ContentTree) (bytes front rest : List ℕ) → AreGroups gs → front ≡ front_spelled gs → bytes ≡ front ++ rest → (behind_front gs).Spells c rest → IsContent c bytes
+unfolding behind_front
+behind_is_content gs c bytes front rest are is parts h =
+    let all = body_is (MAX_PARTS + 1) (spaces_behind gs) h.0 h.1 h.3 in
+    let body_ : List ℕ = body_spelled (spaces_behind gs) h.0.parts h.0.exports in
+    let behind_ : rest ≡ body_ = last rest h.1 h.2 body_ h.5 all.spelled h.4.1 in
+    rw h.4.0 (record {
+      spelled = two bytes front rest (front_spelled gs) body_ parts is behind_;
+      groups = are;
+      supplied = all.supplied;
+      few = all.few;
+    })
+
+-- What begins with a section of types has groups.
+front_same : (gs : List GroupTree) (b : ℕ) (rest bytes front behind_ : List ℕ) → bytes ≡ b ∷ rest → b ≡ 0x07 → bytes ≡ front ++ behind_ → front ≡ whole_front gs → front ≡ front_spelled gs
+front_same [] b rest bytes front behind_ begins seven parts is =
+    let heads : b ≡ 0x05 = ap (λ (xs : List ℕ). get_or xs 0 0) (sym begins ∙ parts ∙ ap (λ (t : List ℕ). t ++ behind_) is) in
+    absurd (omega (arith, heads, seven))
+front_same (g ∷ gs) b rest bytes front behind_ begins seven parts is = is
+
+content_of_is : (t : Bool) (b : ℕ) (rest : List ℕ) (c : ContentTree) (bytes : List ℕ) → (b == 0x07) ≡ t → bytes ≡ b ∷ rest → (content_of t).Spells c bytes → IsContent c bytes
+unfolding open_content
+content_of_is true b rest c bytes test begins h =
+    let f = front_is h.0 h.1 h.3 in
+    let same = front_same h.0 b rest bytes h.1 h.2 begins (eq_of b 0x07 test) h.5 f.0 in
+    behind_is_content h.0 c bytes h.1 h.2 (record { few = omega (arith, f.2); each = f.1 }) same h.5 h.4
+content_of_is false b rest c bytes test begins h =
+    behind_is_content [] c bytes [] bytes (record { few = omega arith; each = tt {0} }) refl refl h
+
+pub content_is : (c : ContentTree) (bytes : List ℕ) → content.Spells c bytes → IsContent c bytes
+unfolding content
+content_is c bytes h = content_of_is (h.0 == 0x07) h.0 h.1 c bytes refl h.2 h.3
+
 -- ---- the whole
 
 pub bundle_is : (b : BundleTree) (bytes : List ℕ) → length bytes < 2 ^ 32 → bundle.Spells b bytes → IsBundle b × (bytes ≡ spelled b)
@@ -81,9 +127,10 @@ unfolding bundle spelled
 bundle_is b bytes lt h =
     let behind_ = h.4 in
     let made = behind_.4 in
-    let all = body_is (MAX_PARTS + 1) no_spaces behind_.0 behind_.1 behind_.3 in
-    let front : List ℕ = body_spelled no_spaces behind_.0.parts behind_.0.exports in
+    let all = content_is behind_.0 behind_.1 behind_.3 in
+    let front : List ℕ = front_spelled behind_.0.front in
+    let body_ : List ℕ = body_spelled (spaces_behind behind_.0.front) behind_.0.body.parts behind_.0.body.exports in
     let sections : List ℕ = flat_map custom_spelled made.0 in
-    let rest : h.2 ≡ front ++ sections = two h.2 behind_.1 behind_.2 front sections behind_.5 all.spelled (customs_are made.0 behind_.2 made.1) in
-    let whole : bytes ≡ BUNDLE_PREAMBLE ++ (front ++ sections) = two bytes h.1 h.2 BUNDLE_PREAMBLE (front ++ sections) h.5 h.3 rest in
-    rw made.2 (record { few = omega (arith, all.few); supplied = all.supplied; short = subst (λ (t : List ℕ). length t < 2 ^ 32) whole lt }, whole)
+    let rest : h.2 ≡ front ++ (body_ ++ sections) = two h.2 behind_.1 behind_.2 (front ++ body_) sections behind_.5 all.spelled (customs_are made.0 behind_.2 made.1) ∙ append_assoc front body_ sections in
+    let whole : bytes ≡ BUNDLE_PREAMBLE ++ (front ++ (body_ ++ sections)) = two bytes h.1 h.2 BUNDLE_PREAMBLE (front ++ (body_ ++ sections)) h.5 h.3 rest in
+    rw made.2 (record { few = omega (arith, all.few); front = all.groups; supplied = all.supplied; short = subst (λ (t : List ℕ). length t < 2 ^ 32) whole lt }, whole)

@@ -5,9 +5,8 @@ use Rattle.std.specs.Prelude.{◌==◌}
 use Rattle.cm_leb.specs.NumbersWritten.{unsigned_length}
 use Rattle.cm_binary_grammar.specs.Grammar.{number}
 use Rattle.cm_binary_grammar.proofs.Laws.{Lawful, done_lawful, bind_lawful, fail_lawful, code_lawful, number_lawful, raw_lawful, check_lawful, fixed_lawful, times_lawful}
-use Rattle.cm_binary_grammar.proofs.WholeLaws.{LawfulWhole, build_lawful, exactly_lawful, join_lawful}
+use Rattle.cm_binary_grammar.proofs.WholeLaws.{LawfulWhole, exactly_lawful}
 use Rattle.cm_binary_grammar.proofs.EndLaws.{IsNonempty, to_end_lawful}
-use Rattle.cm_bundle.specs.Bundles.{bundle}
 use Rattle.cm_bundle.specs.declared.form.TheConstants.{MAX_PARTS}
 use Rattle.cm_bundle.specs.declared.codes.Next.{Next}
 use Rattle.cm_bundle.specs.declared.codes.Next.TheVariants as next
@@ -95,10 +94,6 @@ custom_nonempty x bytes s = omega (arith, ap length s.5, length-append s.1 s.2, 
 pub customs_lawful : LawfulWhole customs
 unfolding customs
 customs_lawful = to_end_lawful (λ (s : Unit {0}). custom) (λ s x. s) (λ s. custom_lawful) (λ s. custom_nonempty) tt
-
-pub bundle_lawful : LawfulWhole bundle
-unfolding bundle
-bundle_lawful = join_lawful _ _ (fixed_lawful _ _) (λ preamble. join_lawful _ _ (body_lawful (MAX_PARTS + 1) no_spaces) (λ b. build_lawful _ _ customs_lawful))
 
 -- ---- names
 

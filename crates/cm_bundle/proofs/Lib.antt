@@ -8,6 +8,10 @@ mod Kept
 pub mod TextLaws
 pub mod MeasuredLaws
 pub mod LawfulBundle
+pub mod FrontLaws
+pub mod FrontIs
+pub mod FrontWritten
+pub mod FrontLoops
 pub mod Shortest
 pub mod Places
 pub mod EitherCode

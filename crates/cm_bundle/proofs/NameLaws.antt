@@ -16,7 +16,8 @@ use Rattle.cm_bundle.specs.Bundles.{IsBundle, spelled}
 use Rattle.cm_bundle.specs.declared.form.TheConstants.{BUNDLE_PREAMBLE, NAMES_HEAD}
 use Rattle.cm_bundle.specs.declared.fault.BundleReason.TheVariants as reasons
 use Rattle.cm_bundle.specs.Trees.{BundleTree, NameTree}
-use Rattle.cm_bundle.specs.Spelled.{body_spelled, custom_spelled, no_spaces}
+use Rattle.cm_bundle.specs.Spelled.{body_spelled, custom_spelled}
+use Rattle.cm_bundle.specs.Fronts.{front_spelled, spaces_behind}
 use Rattle.cm_bundle.specs.Names.{part_name, name_map, name_section, name_data, if_read, names_in, names_of, name_spelled, names_spelled, name_sections, IsName}
 use Rattle.cm_bundle.proofs.LawfulBundle.{name_data_lawful}
 use Rattle.cm_bundle.proofs.Shortest.{short_written}
@@ -69,14 +70,16 @@ names_kept ns are lt = ap if_read (name_data_lawful.again (end.Whole reasons.Siz
 section_short : (b : BundleTree) (contents : List ℕ) → b.customs ≡ contents ∷ [] → IsBundle b → length contents < 2 ^ 32
 unfolding spelled
 section_short b contents is h =
-    let body : List ℕ = body_spelled no_spaces b.parts b.exports in
+    let front : List ℕ = front_spelled b.front in
+    let body : List ℕ = body_spelled (spaces_behind b.front) b.parts b.exports in
     let sections : List ℕ = flat_map custom_spelled b.customs in
     let same : length sections ≡ length (custom_spelled contents) = ap (λ (cs : List (List ℕ)). length (flat_map custom_spelled cs)) is ∙ ap length (append-nil (custom_spelled contents)) in
-    let whole = length-append BUNDLE_PREAMBLE (body ++ sections) in
+    let whole = length-append BUNDLE_PREAMBLE (front ++ (body ++ sections)) in
+    let inner = length-append front (body ++ sections) in
     let both = length-append body sections in
     let one : length (custom_spelled contents) ≡ suc (length (blob_spelling contents)) = refl in
-    let short : length (BUNDLE_PREAMBLE ++ (body ++ sections)) < 2 ^ 32 = h.short in
-    omega (arith, same, whole, both, one, blob_longer contents, short)
+    let short : length (BUNDLE_PREAMBLE ++ (front ++ (body ++ sections))) < 2 ^ 32 = h.short in
+    omega (arith, same, whole, inner, both, one, blob_longer contents, short)
 
 -- So are those of a bundle that has a section of them alone.
 pub names_read : (b : BundleTree) (ns : List NameTree) → b.customs ≡ name_sections ns → IsBundle b → AllByRecursion IsName ns → names_of b ≡ ns

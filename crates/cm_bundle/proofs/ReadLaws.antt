@@ -13,9 +13,9 @@ use Rattle.cm_bundle.specs.declared.fault.BundleReason.TheVariants.{Truncated, M
 use Rattle.cm_bundle.specs.Trees.{BundleTree, bundle_tree}
 use Rattle.cm_bundle.specs.Bundles.{FirstFault, IsBundle, bundle, spelled}
 use Rattle.cm_bundle.specs.Answers.{Accepts, Refuses, Answers}
-use Rattle.cm_bundle.proofs.LawfulBundle.{bundle_lawful}
+use Rattle.cm_bundle.proofs.FrontLaws.{bundle_lawful}
 use Rattle.cm_bundle.proofs.BundleIs.{bundle_is}
-use Rattle.cm_bundle.proofs.WrittenBundle.{bundle_written}
+use Rattle.cm_bundle.proofs.FrontWritten.{bundle_written}
 
 pub is_bundle : (bytes : List ℕ) (r : Result Bundle BundleFault) → IsBytes bytes → length bytes < 2 ^ 32 → Answers bytes r (bundle.reads (end.Cut Truncated) bytes) → IfOk r (λ b. IsBundle (bundle_tree b))
 is_bundle bytes (Ok b) fits lt h = (bundle_is (bundle_tree b) bytes lt (bundle_lawful.takes (end.Cut Truncated) bytes (bundle_tree b) fits h)).0

@@ -20,7 +20,7 @@ use Rattle.cm_bundle.specs.Grammar.{supply, supplies, part, exports, next_of, bo
 
 -- ---- what is passed on
 
-regroup : {A E : Type 0} (front : List A) (x : A) (t : Result (List A × List ℕ) E) → with_front front (and_then t (λ xs. Ok (x ∷ xs.0, xs.1))) ≡ with_front (front ++ x ∷ []) t
+pub regroup : {A E : Type 0} (front : List A) (x : A) (t : Result (List A × List ℕ) E) → with_front front (and_then t (λ xs. Ok (x ∷ xs.0, xs.1))) ≡ with_front (front ++ x ∷ []) t
 regroup {A} {E} front x (Ok xs) = ap (λ (ys : List A). ok_of E (ys, xs.1)) (sym (append_assoc front (x ∷ []) xs.0))
 regroup front x (Err f) = refl
 

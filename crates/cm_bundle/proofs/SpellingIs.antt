@@ -12,7 +12,7 @@ use Rattle.cm_bundle.specs.declared.form.Sort.{Sort}
 use Rattle.cm_bundle.specs.declared.form.Sort.TheVariants as sorts
 use Rattle.cm_bundle.specs.declared.spaces.Counts.{Counts}
 use Rattle.cm_bundle.specs.Trees.{ExportTree, SupplyTree, PartTree}
-use Rattle.cm_bundle.specs.Spelled.{Spaces, next_index, counted, exports_of, sort_code, alias_spelled, supply_spelled, supplies_spelled, instance_spelled, part_spelled, exports_spelled, IsSupply}
+use Rattle.cm_bundle.specs.Spelled.{Spaces, next_index, next_component, counted, exports_of, sort_code, alias_spelled, supply_spelled, supplies_spelled, instance_spelled, part_spelled, exports_spelled, IsSupply}
 use Rattle.cm_bundle.specs.Grammar.{Production, bytes_of, text, sized, sort_of, part_instance, alias, aliases, supply, supplies, instance_of, exports_of_all, part, exports}
 use Rattle.cm_bundle.proofs.Shortest.{short_is, this_is}
 use Rattle.cm_bundle.specs.declared.fault.BundleReason.TheVariants as reasons
@@ -183,14 +183,14 @@ part_is s p bytes h =
     let file = bytes_is h.0 h.1 h.3 in
     let aliased = sized_is (aliases s.places) x.0 x.1 x.3 in
     let all = aliases_are s.places x.0 aliased.contents aliased.spells in
-    let instanced = sized_is (instance_of (length s.places) s.counts x.0) y.0 y.1 y.3 in
-    let inst = instance_is (length s.places) (length s.places) s.counts x.0 y.0 instanced.contents all.1 instanced.spells in
+    let instanced = sized_is (instance_of (next_component s.counts s.places) s.counts x.0) y.0 y.1 y.3 in
+    let inst = instance_is (length s.places) (next_component s.counts s.places) s.counts x.0 y.0 instanced.contents all.1 instanced.spells in
     let xs : List ℕ = blob_spelling (vec_spelling (alias_spelled s.places) (exports_of y.0)) in
     let ends : i.2 ≡ blob_spelling instanced.contents = last i.2 y.1 y.2 (blob_spelling instanced.contents) y.5 instanced.all y.4.1 in
-    let instances : x.2 ≡ instance_spelled (length s.places) s.counts y.0 = two x.2 i.1 i.2 (0x05 ∷ []) (blob_spelling instanced.contents) i.5 i.3 ends ∙ inst.0 in
-    let aliased_ : a.2 ≡ xs ++ instance_spelled (length s.places) s.counts y.0 = two a.2 x.1 x.2 xs (instance_spelled (length s.places) s.counts y.0) x.5 (aliased_is s.places x.0 y.0 x.1 aliased.contents inst.1 all.0 aliased.all) instances in
-    let behind_file : h.2 ≡ 0x06 ∷ (xs ++ instance_spelled (length s.places) s.counts y.0) = two h.2 a.1 a.2 (0x06 ∷ []) (xs ++ instance_spelled (length s.places) s.counts y.0) a.5 a.3 aliased_ in
-    rw y.4.0 (ap (λ (b : List ℕ). 0x04 ∷ b) (two bytes h.1 h.2 (blob_spelling h.0) (0x06 ∷ (xs ++ instance_spelled (length s.places) s.counts y.0)) h.5 file behind_file), inst.2)
+    let instances : x.2 ≡ instance_spelled (next_component s.counts s.places) s.counts y.0 = two x.2 i.1 i.2 (0x05 ∷ []) (blob_spelling instanced.contents) i.5 i.3 ends ∙ inst.0 in
+    let aliased_ : a.2 ≡ xs ++ instance_spelled (next_component s.counts s.places) s.counts y.0 = two a.2 x.1 x.2 xs (instance_spelled (next_component s.counts s.places) s.counts y.0) x.5 (aliased_is s.places x.0 y.0 x.1 aliased.contents inst.1 all.0 aliased.all) instances in
+    let behind_file : h.2 ≡ 0x06 ∷ (xs ++ instance_spelled (next_component s.counts s.places) s.counts y.0) = two h.2 a.1 a.2 (0x06 ∷ []) (xs ++ instance_spelled (next_component s.counts s.places) s.counts y.0) a.5 a.3 aliased_ in
+    rw y.4.0 (ap (λ (b : List ℕ). 0x04 ∷ b) (two bytes h.1 h.2 (blob_spelling h.0) (0x06 ∷ (xs ++ instance_spelled (next_component s.counts s.places) s.counts y.0)) h.5 file behind_file), inst.2)
 
 pub exports_are : (s : Spaces) (ys : List SupplyTree) (bytes : List ℕ) → (exports s).Spells ys bytes → (0x06 ∷ bytes ≡ exports_spelled s ys) × AllByRecursion (IsSupply (length s.places)) ys
 unfolding exports

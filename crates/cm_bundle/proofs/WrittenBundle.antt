@@ -17,7 +17,7 @@ use Rattle.cm_bundle.specs.declared.codes.Next.TheVariants as next
 use Rattle.cm_bundle.specs.declared.form.TheConstants.{BUNDLE_PREAMBLE, MAX_PARTS}
 use Rattle.cm_bundle.specs.declared.spaces.Counts.{Counts}
 use Rattle.cm_bundle.specs.Trees.{ExportTree, SupplyTree, PartTree, BodyTree, BundleTree}
-use Rattle.cm_bundle.specs.Spelled.{Spaces, no_spaces, next_index, counted, all_counted, exports_of, sort_code, alias_spelled, supply_spelled, supplies_spelled, instance_spelled, part_spelled, exports_spelled, body_spelled, after_part, IsSupply, AreSupplied, custom_spelled}
+use Rattle.cm_bundle.specs.Spelled.{Spaces, no_spaces, next_index, next_component, counted, all_counted, exports_of, sort_code, alias_spelled, supply_spelled, supplies_spelled, instance_spelled, part_spelled, exports_spelled, body_spelled, after_part, IsSupply, AreSupplied, custom_spelled}
 use Rattle.cm_bundle.specs.Grammar.{Production, this_number, bytes_of, text, sized, sort_of, part_instance, alias, aliases, supply, supplies, instance_of, exports_of_all, part, exports, body, custom, customs}
 use Rattle.cm_bundle.proofs.Shortest.{short_written, this_written}
 use Rattle.cm_bundle.proofs.Places.{Ordered, place_found, ordered_push, pushed_below}
@@ -26,7 +26,7 @@ use Rattle.cm_bundle.proofs.Places.{Ordered, place_found, ordered_push, pushed_b
 pub blob_longer : (x : List ℕ) → length x ≤ length (blob_spelling x)
 blob_longer x = omega (arith, length-append (shortest_unsigned (length x)) x)
 
-bytes_written : (x : List ℕ) → length (blob_spelling x) < 2 ^ 32 → Spelled bytes_of x (blob_spelling x)
+pub bytes_written : (x : List ℕ) → length (blob_spelling x) < 2 ^ 32 → Spelled bytes_of x (blob_spelling x)
 unfolding bytes_of
 bytes_written x lt = bind_written _ (short_written (length x) (omega (arith, blob_longer x, lt))) (raw_written x) refl
 
@@ -119,7 +119,7 @@ supplies_written lead tail c (y ∷ ys) r utf8 lt =
     bind_written _ one (last_written (λ zs. y ∷ zs) more) refl
 
 -- As many as are passed on, no more than bytes spell them.
-supplies_count : (lead tail : List ℕ) (c : Counts) (ys : List SupplyTree) → length ys ≤ length (supplies_spelled lead tail c ys)
+pub supplies_count : (lead tail : List ℕ) (c : Counts) (ys : List SupplyTree) → length ys ≤ length (supplies_spelled lead tail c ys)
 supplies_count lead tail c [] = omega arith
 supplies_count lead tail c (y ∷ ys) =
     let index : List ℕ = shortest_unsigned (next_index c y.export.sort) in
@@ -167,7 +167,7 @@ pub record IsReady (s : Spaces) (left : ℕ) : Type 0 where
   pub room : Room s.counts left
   pub ordered : Ordered s.places
   pub below : (k : ℕ) → k < length s.places → slice_index s.places k < s.counts.instances
-  pub few : length s.places ≤ MAX_PARTS
+  pub few : length s.places ≤ MAX_PARTS + 1
 
 are_places : (s : Spaces) (left : ℕ) → IsReady s left → ArePlaces s.places s.counts.instances
 are_places s left r = record { ordered = r.ordered; below = r.below; small = omega (arith, r.room.1) }
@@ -176,7 +176,7 @@ are_places s left r = record { ordered = r.ordered; below = r.below; small = ome
 pub record PartLengths (s : Spaces) (p : PartTree) : Type 0 where
   pub file : length (blob_spelling p.file) < length (part_spelled s p)
   pub aliases : length (blob_spelling (vec_spelling (alias_spelled s.places) (exports_of p.arguments))) < length (part_spelled s p)
-  pub instance_ : length (instance_spelled (length s.places) s.counts p.arguments) < length (part_spelled s p)
+  pub instance_ : length (instance_spelled (next_component s.counts s.places) s.counts p.arguments) < length (part_spelled s p)
 
 -- Three sections, of which the first begins with an id.
 three : (id : ℕ) (a b c : List ℕ) → length ((id ∷ a) ++ (b ++ c)) ≡ suc (length a + (length b + length c))
@@ -185,7 +185,7 @@ three id a b c = omega (arith, length-append a (b ++ c), length-append b c)
 part_lengths : (s : Spaces) (p : PartTree) → PartLengths s p
 part_lengths s p =
     let xs : List ℕ = blob_spelling (vec_spelling (alias_spelled s.places) (exports_of p.arguments)) in
-    let inst : List ℕ = instance_spelled (length s.places) s.counts p.arguments in
+    let inst : List ℕ = instance_spelled (next_component s.counts s.places) s.counts p.arguments in
     let all : length (part_spelled s p) ≡ suc (length (blob_spelling p.file) + (suc (length xs) + length inst)) = three 0x04 (blob_spelling p.file) (0x06 ∷ xs) inst in
     record { file = omega (arith, all); aliases = omega (arith, all); instance_ = omega (arith, all) }
 
@@ -195,9 +195,9 @@ part_count s p =
     let ys : List SupplyTree = p.arguments in
     let lengths = part_lengths s p in
     let body_ : List ℕ = supplies_spelled [] [] s.counts ys in
-    let inst : List ℕ = 0x01 ∷ 0x00 ∷ (shortest_unsigned (length s.places) ++ (shortest_unsigned (length ys) ++ body_)) in
-    let long : length body_ ≤ length inst = contents_longer (shortest_unsigned (length s.places)) (shortest_unsigned (length ys)) body_ in
-    let whole : length (instance_spelled (length s.places) s.counts ys) ≡ suc (length (blob_spelling inst)) = refl in
+    let inst : List ℕ = 0x01 ∷ 0x00 ∷ (shortest_unsigned (next_component s.counts s.places) ++ (shortest_unsigned (length ys) ++ body_)) in
+    let long : length body_ ≤ length inst = contents_longer (shortest_unsigned (next_component s.counts s.places)) (shortest_unsigned (length ys)) body_ in
+    let whole : length (instance_spelled (next_component s.counts s.places) s.counts ys) ≡ suc (length (blob_spelling inst)) = refl in
     omega (arith, lengths.instance_, blob_longer inst, long, whole, supplies_count [] [] s.counts ys)
 
 part_written : (s : Spaces) (p : PartTree) (left : ℕ) → IsReady s left → length (part_spelled s p) ≤ left → AllByRecursion (IsSupply (length s.places)) p.arguments → (rest : List ℕ) × (part_spelled s p ≡ 0x04 ∷ rest) × Spelled (part s) p rest
@@ -205,15 +205,15 @@ unfolding part
 part_written s p left r le h =
     let ys : List SupplyTree = p.arguments in
     let listed : List ℕ = vec_spelling (alias_spelled s.places) (exports_of ys) in
-    let inst : List ℕ = 0x01 ∷ 0x00 ∷ (shortest_unsigned (length s.places) ++ (shortest_unsigned (length ys) ++ supplies_spelled [] [] s.counts ys)) in
+    let inst : List ℕ = 0x01 ∷ 0x00 ∷ (shortest_unsigned (next_component s.counts s.places) ++ (shortest_unsigned (length ys) ++ supplies_spelled [] [] s.counts ys)) in
     let lengths = part_lengths s p in
-    let whole : length (instance_spelled (length s.places) s.counts ys) ≡ suc (length (blob_spelling inst)) = refl in
+    let whole : length (instance_spelled (next_component s.counts s.places) s.counts ys) ≡ suc (length (blob_spelling inst)) = refl in
     let most : MAX_PARTS ≡ 1000 = refl in
     let total : left < 2 ^ 32 = omega (arith, r.room.0) in
     let file = bytes_written p.file (omega (arith, lengths.file, le, total)) in
     let few : length ys ≤ left = omega (arith, part_count s p, le) in
     let aliased = sized_written (aliases s.places) (exports_of ys) listed (omega (arith, lengths.aliases, le, total)) (aliases_written s.places s.counts.instances (exports_of ys) (are_places s left r) (fine_exports (length s.places) s.places ys refl h) (omega (arith, blob_longer listed, lengths.aliases, le, total))) in
-    let instanced = sized_written (instance_of (length s.places) s.counts (exports_of ys)) ys inst (omega (arith, whole, lengths.instance_, le, total)) (instance_written (length s.places) s.counts ys inst refl (omega (arith, most, r.few)) (omega (arith, r.room.0, few), omega (arith, r.room.1, few)) (fine_names (length s.places) ys h) (omega (arith, blob_longer inst, whole, lengths.instance_, le, total))) in
+    let instanced = sized_written (instance_of (next_component s.counts s.places) s.counts (exports_of ys)) ys inst (omega (arith, whole, lengths.instance_, le, total)) (instance_written (next_component s.counts s.places) s.counts ys inst refl (omega (arith, most, r.few)) (omega (arith, r.room.0, few), omega (arith, r.room.1, few)) (fine_names (length s.places) ys h) (omega (arith, blob_longer inst, whole, lengths.instance_, le, total))) in
     (_, refl, bind_written _ file (bind_written _ fixed_written (bind_written _ aliased (bind_written _ fixed_written (last_written (λ zs. record { file = p.file; arguments = zs }) instanced) refl) refl) refl) refl)
 
 -- ---- the whole
@@ -228,13 +228,13 @@ counted_one : (c : Counts) (sort : Sort) (xs : List ExportTree) → CountedUp (c
 counted_one c sorts.Func xs h n e = (omega (arith, h.functions), omega (arith, h.most), omega (arith, h.least))
 counted_one c sorts.Instance xs h n e = (omega (arith, h.functions), omega (arith, h.most), omega (arith, h.least))
 
-counted_up : (c : Counts) (xs : List ExportTree) → CountedUp c xs
+pub counted_up : (c : Counts) (xs : List ExportTree) → CountedUp c xs
 counted_up c [] = record { functions = omega arith; most = omega arith; least = omega arith }
 counted_up c (x ∷ xs) =
     let one = counted_one c x.sort xs (counted_up (counted c x.sort) xs) (length (x ∷ xs)) refl in
     record { functions = one.0; most = one.1; least = one.2 }
 
-ready_after : (s : Spaces) (p : PartTree) (left rest : ℕ) → IsReady s left → length (part_spelled s p) + rest ≤ left → length s.places + 1 ≤ MAX_PARTS → IsReady (after_part s p) rest
+ready_after : (s : Spaces) (p : PartTree) (left rest : ℕ) → IsReady s left → length (part_spelled s p) + rest ≤ left → length s.places + 1 ≤ MAX_PARTS + 1 → IsReady (after_part s p) rest
 ready_after s p left rest r le few =
     let xs : List ExportTree = exports_of p.arguments in
     let up = counted_up s.counts xs in
@@ -272,7 +272,7 @@ exports_written s ys left r le h =
     let exported = sized_written (exports_of_all s.counts (exports_of ys)) ys out (omega (arith, first, le, total)) (exported_written s.counts ys (omega (arith, r.room.0, few), omega (arith, r.room.1, few)) (fine_names (length s.places) ys h) (omega (arith, blob_longer out, first, le, total))) in
     (_, refl, bind_written _ aliased (bind_written _ fixed_written exported refl) refl)
 
-pub body_written : (room : ℕ) (s : Spaces) (ps : List PartTree) (ys : List SupplyTree) (left : ℕ) → IsReady s left → length (body_spelled s ps ys) ≤ left → length s.places + length ps ≤ MAX_PARTS → length ps < room → AreSupplied (length s.places) ps ys → Spelled (body room s) (record { parts = ps; exports = ys }) (body_spelled s ps ys)
+pub body_written : (room : ℕ) (s : Spaces) (ps : List PartTree) (ys : List SupplyTree) (left : ℕ) → IsReady s left → length (body_spelled s ps ys) ≤ left → length s.places + length ps ≤ MAX_PARTS + 1 → length ps < room → AreSupplied (length s.places) ps ys → Spelled (body room s) (record { parts = ps; exports = ys }) (body_spelled s ps ys)
 unfolding body
 body_written zero s ps ys left r le few more h = absurd (omega (arith, more))
 body_written (suc room) s [] ys left r le few more h =
@@ -299,19 +299,6 @@ custom_step s x xs lt =
     let one : length (custom_spelled x) ≡ suc (length (blob_spelling x)) = refl in
     (bind_written _ fixed_written (bytes_written x (omega (arith, lengths, one, lt))) refl, omega (arith, lengths, lt))
 
-customs_written : (xs : List (List ℕ)) → length (flat_map custom_spelled xs) < 2 ^ 32 → customs.Spells xs (flat_map custom_spelled xs)
+pub customs_written : (xs : List (List ℕ)) → length (flat_map custom_spelled xs) < 2 ^ 32 → customs.Spells xs (flat_map custom_spelled xs)
 unfolding customs
 customs_written xs lt = each_written (λ (s : Unit {0}). custom) (λ s x. s) custom_spelled AreShort custom_step tt xs lt
-
-pub bundle_written : (b : BundleTree) → IsBundle b → bundle.Spells b (spelled b)
-unfolding bundle spelled
-bundle_written b h =
-    let all : List ℕ = body_spelled no_spaces b.parts b.exports in
-    let sections : List ℕ = flat_map custom_spelled b.customs in
-    let lengths = length-append BUNDLE_PREAMBLE (all ++ sections) in
-    let both = length-append all sections in
-    let short_ : length (BUNDLE_PREAMBLE ++ (all ++ sections)) < 2 ^ 32 = h.short in
-    let ready : IsReady no_spaces (length all) = record { room = (omega (arith, lengths, both, short_), omega (arith, lengths, both, short_)); ordered = λ j k below lt. absurd (omega (arith, lt)); below = λ k lt. absurd (omega (arith, lt)); few = omega arith } in
-    let body_ = body_written (MAX_PARTS + 1) no_spaces b.parts b.exports (length all) ready (omega arith) (omega (arith, h.few)) (omega (arith, h.few)) h.supplied in
-    let customs_ = customs_written b.customs (omega (arith, lengths, both, short_)) in
-    (tt, BUNDLE_PREAMBLE, all ++ sections, refl, (record { parts = b.parts; exports = b.exports }, all, sections, body_.spells, (b.customs, customs_, refl), refl), refl)

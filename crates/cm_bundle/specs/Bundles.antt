@@ -1,6 +1,6 @@
 -- Bundles: their one spelling, which bytes are one, and the first fault of others.
 use Rattle.std.specs.Prelude.{◌≡◌, ℕ, ◌+◌, ◌-◌, ◌^◌, ◌≤◌, ◌<◌, ◌⊎◌, List, [], ◌++◌, length, ◌==◌}
-use Rattle.std.specs.Prelude.{if◌then◌else◌}
+use Rattle.std.specs.Prelude.{Bool, true, false}
 use Rattle.std.specs.List.{flat_map}
 use Rattle.cm_binary_grammar.specs.declared.fault.End.TheVariants as end
 use Rattle.cm_binary_grammar.specs.Faults.{flaw}
@@ -43,9 +43,14 @@ behind_front gs = do
 unfoldable pub open_content : Production ContentTree
 open_content = front >>= behind_front
 
--- What stands in an open bundle, which begins with a section of types, or in a closed one.
+-- What stands in an open bundle, or in a closed one.
+abbrev pub content_of : Bool → Production ContentTree
+content_of true = open_content
+content_of false = behind_front []
+
+-- What stands in a bundle, which is open where it begins with a section of types.
 unfoldable pub content : Production ContentTree
-content = ahead (λ b. if b == 0x07 then open_content else behind_front [])
+content = ahead (λ b. content_of (b == 0x07))
 
 -- What stands behind the preamble.
 abbrev pub behind_preamble : Whole BundleReason BundleTree

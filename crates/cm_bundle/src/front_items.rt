@@ -9,7 +9,7 @@ ghost use Rattle.cm_bundle.specs.declared.fault.BundleReason.TheVariants as reas
 ghost use Rattle.cm_bundle.specs.Fronts.{import_, import_list, import_data, imports_in};
 ghost use Rattle.cm_bundle.specs.Fronts.{type_alias, type_alias_list, type_alias_data};
 ghost use Rattle.cm_bundle.specs.Fronts.{are_imports, are_type_aliases, imports_of};
-ghost use Rattle.cm_bundle.specs.Fronts.{all_passed_on};
+ghost use Rattle.cm_bundle.specs.Fronts.{passed_on, all_passed_on};
 ghost use Rattle.cm_bundle.specs.Trees.{import_tree, type_alias_tree, group_tree, supply_tree};
 
 use crate::fault::BundleReason;
@@ -209,8 +209,20 @@ pub fn supplies_of<'a>(
     ensures few { IfOk result (λ v. length v.items ≤ length front.now * 2 ^ 32) }
 {
     let imports = imports_of(alloc, front)?;
+    passed_on(alloc, &imports)
+}
+
+/// These imports, each under its name, as they are passed on to parts.
+fn passed_on<'a>(
+    alloc: Global,
+    imports: &[BundleImport<'a>],
+) -> Result<Vec<Supply<'a>>, AllocError>
+    ensures supplies { IfOk result (λ v. map supply_tree v.items
+        ≡ map passed_on (map import_tree imports.now)) }
+    ensures count { IfOk result (λ v. length v.items ≡ length imports.now) }
+{
     let mut supplies = Vec::new(alloc);
-    for import in &imports {
+    for import in imports {
         let BundleImport { name, sort, .. } = *import;
         let export = PartExport {
             part: 0,

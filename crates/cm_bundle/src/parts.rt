@@ -69,7 +69,7 @@ pub fn read_body<'a>(
 ) -> Result<Body<'a>, ReadError<BundleReason>>
     requires functions { spaces.counts.functions < 2 ^ 61 }
     requires instances { spaces.counts.instances < 2 ^ 61 }
-    ensures read { Reads (body (MAX_PARTS + 1) (spaces_of spaces.entry))
+    ensures read { Reads (body (MAX_PARTS + 1) (spaces_of spaces))
         body_tree bytes.old bytes.new result }
     ensures end { bytes.new.end ≡ bytes.old.end }
 {

@@ -95,7 +95,7 @@ fn write_body(
     requires few { length bundle.now.parts.items ≤ MAX_PARTS }
     requires functions { spaces.counts.functions < 2 ^ 61 }
     requires instances { spaces.counts.instances < 2 ^ 61 }
-    ensures { WritesBody (spaces_of spaces.entry) (bundle_tree bundle.now)
+    ensures { WritesBody (spaces_of spaces) (bundle_tree bundle.now)
         out.old.items out.new.items result }
 {
     let mut counts = spaces.counts;

@@ -4,7 +4,7 @@ use Rattle.cm_binary_grammar.proofs.ReadingLaws.{inside_part}
 use Rattle.cm_bundle.specs.declared.fault.BundleReason.TheVariants.{Truncated}
 use Rattle.cm_bundle.specs.Bundles.{bundle}
 use Rattle.cm_bundle.specs.Trees.{bundle_tree}
-use Rattle.cm_bundle.proofs.LawfulBundle.{bundle_lawful}
+use Rattle.cm_bundle.proofs.FrontLaws.{bundle_lawful}
 use Rattle.cm_bundle.proofs.reading.read_inside.Goals as goal
 
 pub returns-clause-inside : goal.returns-clause-inside

@@ -1,6 +1,7 @@
 use Rattle.std.proofs.Common.{◌+◌, ap, map, drop}
 use Rattle.std.proofs.lemmas.Result.{err_from_is_err_and}
 use Rattle.cm_lemmas.proofs.Lists.{next_element, drop_past}
+use Rattle.cm_bundle.specs.Room.{spaces_of}
 use Rattle.cm_bundle.specs.Spelled.{Spaces}
 use Rattle.cm_bundle.specs.Trees.{part_tree, supply_tree, bundle_tree}
 use Rattle.cm_bundle.proofs.Refusing.{part_wrong, body_ends_written}
@@ -25,4 +26,4 @@ returns c =
     let s : Spaces = record { counts = l.counts; places = l.places.items } in
     let past = rw c.deref-part-items.ensures.value at c.loop-part-test.false in
     let wrote = rw (c.deref-2.ensures.value, c.deref-3.ensures.value) at c.write_exports.ensures in
-    body_ends_written c.write_exports.result (bundle_tree b) s (map part_tree (drop l.part-index b.parts.items)) l.out.items c.args.out.now.items c.write_exports.new.out.items (ap (map part_tree) (drop_past b.parts.items l.part-index past)) l.invariant.0 l.invariant.1 wrote
+    body_ends_written c.write_exports.result (bundle_tree b) (spaces_of c.args.spaces) s (map part_tree (drop l.part-index b.parts.items)) l.out.items c.args.out.now.items c.write_exports.new.out.items (ap (map part_tree) (drop_past b.parts.items l.part-index past)) l.invariant.0 l.invariant.1 wrote
