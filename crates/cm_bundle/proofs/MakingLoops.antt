@@ -56,16 +56,13 @@ module _ (set : LinkSet) where
   one_more_from n [] f = ap (λ m. part_of set (m, f) ∷ []) (omega arith)
   one_more_from n (g ∷ fs) f = ap (λ l. part_of set (n, g) ∷ l) (one_more_from (n + 1) fs f ∙ ap (λ m. map (part_of set) (enumerate_from (n + 1) fs) ++ part_of set (m, f) ∷ []) (omega arith))
 
-  pub one_more_part : (fs : List (List ℕ)) (i : ℕ) (f : List ℕ) (ps : List PartTree) → i < length fs → f ≡ get_or fs i f → ps ≡ map (part_of set) (enumerate_from 0 (take i fs)) → ps ++ part_of set (i, f) ∷ [] ≡ map (part_of set) (enumerate_from 0 (take (i + 1) fs))
-  one_more_part fs i f ps lt e so =
-      ap (λ l. l ++ part_of set (i, f) ∷ []) so
-      ∙ ap (λ m. map (part_of set) (enumerate_from 0 (take i fs)) ++ part_of set (m, f) ∷ []) (from_zero (length (take i fs)) i (taken fs i (omega (arith, lt))))
-      ∙ sym (one_more_from 0 (take i fs) f)
-      ∙ ap (λ l. map (part_of set) (enumerate_from 0 l)) (sym (take_read fs i f lt e))
+  pub one_more_part : (first : ℕ) (fs : List (List ℕ)) (i : ℕ) (f : List ℕ) (ps : List PartTree) → i < length fs → f ≡ get_or fs i f → ps ≡ map (part_of set) (enumerate_from first (take i fs)) → ps ++ part_of set (first + i, f) ∷ [] ≡ map (part_of set) (enumerate_from first (take (i + 1) fs))
+  one_more_part first fs i f ps lt e so =
+      ap (λ l. l ++ part_of set (first + i, f) ∷ []) so
+      ∙ ap (λ m. map (part_of set) (enumerate_from first (take i fs)) ++ part_of set (first + m, f) ∷ []) (sym (taken fs i (omega (arith, lt))))
+      ∙ sym (one_more_from first (take i fs) f)
+      ∙ ap (λ l. map (part_of set) (enumerate_from first l)) (sym (take_read fs i f lt e))
     where
-      from_zero : (n m : ℕ) → n ≡ m → m ≡ 0 + n
-      from_zero n m e = omega (arith, e)
-
       taken : (fs : List (List ℕ)) (i : ℕ) → i ≤ length fs → length (take i fs) ≡ i
       taken fs zero le = refl
       taken [] (suc i) le = absurd (omega (arith, le))
@@ -80,11 +77,11 @@ module _ (set : LinkSet) where
   files_length [] = refl
   files_length (f ∷ fs) = ap suc (files_length fs)
 
-  pub parts_pushed : (fs : List (Bor (List ℕ))) (i : ℕ) (d : Bor (List ℕ)) (old new : List Part) (given : Vec Supply Global) → i < length fs → new ≡ old ++ (record { file = get_or fs i d; arguments = given }) ∷ [] → map part_tree old ≡ map (part_of set) (enumerate_from 0 (take i (map (λ f. f.now) fs))) → map supply_tree given.items ≡ arguments_of set i → map part_tree new ≡ map (part_of set) (enumerate_from 0 (take (i + 1) (map (λ f. f.now) fs)))
-  parts_pushed fs i d old new given lt pushed so same =
+  pub parts_pushed : (first : ℕ) (fs : List (Bor (List ℕ))) (i : ℕ) (d : Bor (List ℕ)) (old new : List Part) (given : Vec Supply Global) → i < length fs → new ≡ old ++ (record { file = get_or fs i d; arguments = given }) ∷ [] → map part_tree old ≡ map (part_of set) (enumerate_from first (take i (map (λ f. f.now) fs))) → map supply_tree given.items ≡ arguments_of set (first + i) → map part_tree new ≡ map (part_of set) (enumerate_from first (take (i + 1) (map (λ f. f.now) fs)))
+  parts_pushed first fs i d old new given lt pushed so same =
       ap (map part_tree) pushed ∙ map-append part_tree old _
       ∙ ap (λ l. map part_tree old ++ (record { file = (get_or fs i d).now; arguments = l }) ∷ []) same
-      ∙ one_more_part (map (λ f. f.now) fs) i (get_or fs i d).now (map part_tree old) (omega (arith, lt, files_length fs)) (file_read fs i d (get_or fs i d).now lt) so
+      ∙ one_more_part first (map (λ f. f.now) fs) i (get_or fs i d).now (map part_tree old) (omega (arith, lt, files_length fs)) (file_read fs i d (get_or fs i d).now lt) so
 
 pub part_texts : (xs : List Part) (x : Part) → AllByRecursion (λ p. AllByRecursion HasTexts p.arguments) (map part_tree xs) → AllByRecursion HasTexts (map supply_tree x.arguments.items) → AllByRecursion (λ p. AllByRecursion HasTexts p.arguments) (map part_tree (xs ++ x ∷ []))
 part_texts [] x all one = (one, tt {0})

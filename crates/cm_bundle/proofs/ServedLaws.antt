@@ -11,8 +11,8 @@ use Rattle.cm_match_model.specs.Imports.{ImportAt, LinkSet, export_in, imports_f
 use Rattle.cm_match_model.specs.Links.{CanBeLinked, IsServed, lines_of, plan_line}
 use Rattle.cm_match_model.specs.Origins.{LeadEarlier}
 use Rattle.cm_match_model.specs.Serving.{ServesExtern}
-use Rattle.cm_bundle.specs.Trees.{SupplyTree}
-use Rattle.cm_bundle.specs.Bundled.{argument_of, arguments_of, bundle_with, export_at, export_sort, import_sort, part_of}
+use Rattle.cm_bundle.specs.Trees.{GroupTree, SupplyTree}
+use Rattle.cm_bundle.specs.Bundled.{argument_of, arguments_of, bundle_with, export_at, export_sort, first_part, import_sort, part_of}
 use Rattle.cm_bundle.specs.Serving.{IsGiven}
 use Rattle.cm_bundle.proofs.Given.{IsHere, IsHereIn, all_are_here, all_here_in, given, supply_named}
 use Rattle.cm_bundle.proofs.Lines.{all_here}
@@ -24,8 +24,8 @@ kept_from : (set : LinkSet) (n : ℕ) (files : List (List ℕ)) → map (λ p. p
 kept_from set n [] = refl
 kept_from set n (f ∷ fs) = ap (λ l. f ∷ l) (kept_from set (n + 1) fs)
 
-pub files_kept : (set : LinkSet) (files : List (List ℕ)) (exporter : ℕ) (customs : List (List ℕ)) → map (λ p. p.file) (bundle_with set files exporter customs).parts ≡ files
-files_kept set files exporter customs = kept_from set 0 files
+pub files_kept : (set : LinkSet) (front : List GroupTree) (files : List (List ℕ)) (exporter : ℕ) (customs : List (List ℕ)) → map (λ p. p.file) (bundle_with set front files exporter customs).parts ≡ files
+files_kept set front files exporter customs = kept_from set (first_part front) files
 
 -- ---- what serves
 

@@ -61,7 +61,7 @@ pub fn bundle_with<'a>(
 
 /// The lines of the plan for the imports of the components from this number on, which is 0 or 1.
 fn lines_behind<'a>(linked: &'a Linked<'_>, first: usize) -> &'a [PlanLine]
-    requires { first ≤ 1 }
+    requires few { first ≤ 1 }
     requires there { first ≤ length (set_in linked.now).spaces }
     ensures { result.now ≡ lines_of (set_in linked.now)
         (all_imports_from first (drop first (set_in linked.now).spaces)) }
@@ -95,8 +95,8 @@ fn parts_of<'a>(
     let mut lines = lines;
     let mut parts = Vec::new(alloc);
     for (number, file) in files.iter().enumerate() {
-        let own_count = components[first + number].imports().len();
-        let (own, others) = lines.split_at(own_count);
+        let component = first + number;
+        let (own, others) = lines.split_at(components[component].imports().len());
         let arguments = arguments_of(alloc, linked, own)?;
         parts.push(Part { file, arguments })?;
         lines = others;

@@ -89,7 +89,7 @@ pub fn bundle(
         (map name_tree names.now))) }
 {
     let count = linked.components().len();
-    if files.len().checked_add(first_part(front)) != Some(count) {
+    if first_part(front) + files.len() != count {
         return Err(BundlingFault::OtherFiles);
     }
     if count <= exporter {
