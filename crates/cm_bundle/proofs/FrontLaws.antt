@@ -1,5 +1,5 @@
 -- The front of an open bundle is read exactly.
-use Rattle.std.proofs.Common.{◌≡◌, ℕ, zero, suc, ◌<◌, List, [], ◌∷◌, ◌++◌, ◌+◌, length, Bool, true, false, ap, arith}
+use Rattle.std.proofs.Common.{ℕ, zero, suc, ◌<◌, List, [], ◌+◌, length, Bool, true, false, ap, arith}
 use Rattle.std.proofs.lemmas.List.{length-append}
 use Rattle.std.specs.Prelude.{◌==◌}
 use Rattle.cm_binary_grammar.proofs.Laws.{Lawful, done_lawful, bind_lawful, fail_lawful, code_lawful, check_lawful, fixed_lawful, times_lawful, ahead_lawful}

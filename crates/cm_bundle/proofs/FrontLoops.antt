@@ -1,5 +1,5 @@
 -- The loop that reads the groups of a front.
-use Rattle.std.proofs.Common.{◌≡◌, ℕ, suc, List, [], ◌∷◌, ◌++◌, length, map, Bool, Option, Some, None, slice_get, Result, Ok, Err, refl, sym, ap, ◌∙◌}
+use Rattle.std.proofs.Common.{◌≡◌, ℕ, suc, List, [], ◌∷◌, ◌++◌, length, Bool, Option, Some, None, slice_get, Result, Ok, Err, refl, sym, ap, ◌∙◌}
 use Rattle.std.specs.Prelude.{◌==◌}
 use Rattle.std.specs.Option.{unwrap_or}
 use Rattle.std.proofs.lemmas.List.{append-nil}
@@ -7,7 +7,7 @@ use Rattle.cm_binary_grammar.specs.declared.fault.Fault.{Fault}
 use Rattle.cm_binary_grammar.specs.declared.fault.End.{End}
 use Rattle.cm_binary_grammar.specs.declared.fault.ReadError.{ReadError}
 use Rattle.cm_binary_grammar.specs.declared.fault.ReadError.TheVariants as errors
-use Rattle.cm_binary_grammar.specs.Faults.{flaw, want, and_then, Fails}
+use Rattle.cm_binary_grammar.specs.Faults.{flaw, want, Fails}
 use Rattle.cm_binary_grammar.specs.Grammar.{code}
 use Rattle.cm_binary_grammar.proofs.ReadingLaws.{with_front}
 use Rattle.cm_lemmas.proofs.Results.{ok_of}

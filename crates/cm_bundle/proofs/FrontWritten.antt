@@ -1,17 +1,15 @@
 -- The spelling of a front is what the grammar takes as that front.
-use Rattle.std.proofs.Common.{◌≡◌, ℕ, zero, suc, ◌+◌, ◌<◌, ◌≤◌, ◌^◌, List, [], ◌∷◌, ◌++◌, length, Ok, refl, sym, ap, subst, ◌∙◌, append_assoc, arith}
-use Rattle.std.proofs.lemmas.List.{length-append, append-nil}
+use Rattle.std.proofs.Common.{◌≡◌, ℕ, zero, suc, ◌+◌, ◌<◌, ◌≤◌, ◌^◌, List, [], ◌∷◌, ◌++◌, length, refl, sym, ap, ◌∙◌, append_assoc, arith}
+use Rattle.std.proofs.lemmas.List.{length-append}
 use Rattle.std.specs.List.{AllByRecursion, flat_map}
 use Rattle.std.specs.Prelude.{slice_index, ◌==◌}
 use Rattle.cm_leb.specs.NumbersWritten.{shortest_unsigned}
 use Rattle.cm_binary_grammar.specs.Spelling.{blob_spelling}
 use Rattle.cm_binary_grammar.proofs.WrittenLaws.{Spelled, ahead_written, done_written, bind_written, last_written, code_written, fixed_written, check_written}
-use Rattle.cm_bundle.specs.declared.codes.Next.TheVariants as next
 use Rattle.cm_bundle.specs.declared.codes.InFront.TheVariants as in_front
 use Rattle.cm_bundle.specs.declared.form.TheConstants.{BUNDLE_PREAMBLE, MAX_PARTS}
 use Rattle.cm_bundle.specs.Trees.{GroupTree, SupplyTree, PartTree, ContentTree, BundleTree}
-use Rattle.cm_bundle.specs.Spelled.{Spaces, no_spaces, counted, all_counted, exports_of, body_spelled, after_part, supplies_spelled, custom_spelled, AreSupplied}
-use Rattle.cm_bundle.specs.Grammar.{body}
+use Rattle.cm_bundle.specs.Spelled.{Spaces, no_spaces, all_counted, exports_of, body_spelled, supplies_spelled, custom_spelled, AreSupplied}
 use Rattle.cm_bundle.specs.Fronts.{imports_section, aliases_section, group, groups, front, front_counts, front_spaces, front_spelled, spaces_behind, all_passed_on, imported_spelled, group_spelled, IsGroup}
 use Rattle.cm_bundle.specs.Bundles.{behind_front, open_content, content_of, content, bundle, spelled, IsBundle}
 use Rattle.cm_bundle.proofs.FrontIs.{whole_front}

@@ -19,6 +19,7 @@ use Rattle.cm_bundle.specs.Bundled.{bundle_of, bundle_with, first_part, part_of,
 use Rattle.cm_bundle.specs.Fronts.{spaces_behind, AreGroups, IsGroup}
 use Rattle.cm_bundle.specs.Names.{IsName, name_sections, names_of}
 use Rattle.cm_bundle.specs.Refusals.{IsRefused}
+use Rattle.cm_bundle.specs.Spelled.{AreSupplied}
 use Rattle.cm_bundle.specs.BundlingRefusals.{AreComplete, IsUnwritten, IsWritten}
 use Rattle.cm_bundle.specs.declared.bundling.BundlingFault.{BundlingFault}
 use Rattle.cm_bundle.proofs.NameLaws.{names_read}
@@ -84,6 +85,15 @@ is_fine set merely front files exporter customs b is complete (inr bad) =
 pub first_place : (front : List GroupTree) → length (spaces_behind front).places ≡ first_part front
 first_place [] = refl
 first_place (g ∷ gs) = refl
+
+-- what a set is bundled with is supplied
+pub is_supplied : (set : LinkSet) (front : List GroupTree) (files : List (List ℕ)) (exporter : ℕ)
+    (customs : List (List ℕ)) (b : BundleTree) → b ≡ bundle_with set front files exporter customs
+    → AreSupplied (first_part front) b.parts b.exports → IsRefused faults.NoSuchPart b → ⊥
+is_supplied set front files exporter customs b is supplied bad =
+    let same : length (spaces_behind b.front).places ≡ first_part front =
+    ap (λ (t : BundleTree). length (spaces_behind t.front).places) is ∙ first_place front in
+    bad (subst (λ (n : ℕ). AreSupplied n b.parts b.exports) (sym same) supplied)
 
 -- ---- names
 

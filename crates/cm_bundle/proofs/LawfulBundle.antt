@@ -1,5 +1,5 @@
 -- Bundles are read exactly.
-use Rattle.std.proofs.Common.{ℕ, zero, suc, ◌<◌, List, [], ◌∷◌, ◌++◌, ◌+◌, length, ap, arith}
+use Rattle.std.proofs.Common.{ℕ, zero, suc, List, [], ◌∷◌, length, ap, arith}
 use Rattle.std.proofs.lemmas.List.{length-append}
 use Rattle.std.specs.Prelude.{◌==◌}
 use Rattle.cm_leb.specs.NumbersWritten.{unsigned_length}
@@ -7,13 +7,12 @@ use Rattle.cm_binary_grammar.specs.Grammar.{number}
 use Rattle.cm_binary_grammar.proofs.Laws.{Lawful, done_lawful, bind_lawful, fail_lawful, code_lawful, number_lawful, raw_lawful, check_lawful, fixed_lawful, times_lawful}
 use Rattle.cm_binary_grammar.proofs.WholeLaws.{LawfulWhole, exactly_lawful}
 use Rattle.cm_binary_grammar.proofs.EndLaws.{IsNonempty, to_end_lawful}
-use Rattle.cm_bundle.specs.declared.form.TheConstants.{MAX_PARTS}
 use Rattle.cm_bundle.specs.declared.codes.Next.{Next}
 use Rattle.cm_bundle.specs.declared.codes.Next.TheVariants as next
 use Rattle.cm_bundle.specs.declared.fault.BundleReason.TheVariants as reasons
 use Rattle.cm_bundle.specs.declared.spaces.Counts.{Counts}
 use Rattle.cm_bundle.specs.Trees.{ExportTree, BodyTree}
-use Rattle.cm_bundle.specs.Spelled.{Spaces, no_spaces, counted}
+use Rattle.cm_bundle.specs.Spelled.{Spaces, counted}
 use Rattle.cm_bundle.specs.Grammar.{Production, short, this_number, bytes_of, text, sized, part_instance, alias, aliases, supply, supplies, instance_of, exports_of_all, part, exports, behind, body, custom, customs}
 use Rattle.cm_bundle.specs.Names.{part_name, name_map, name_section, name_data}
 use Rattle.cm_bundle.proofs.MeasuredLaws.{measured_lawful}

@@ -5,6 +5,7 @@ mod Supplying
 mod SetRead
 mod MakingLoops
 mod Kept
+mod Alike
 pub mod TextLaws
 pub mod MeasuredLaws
 pub mod LawfulBundle

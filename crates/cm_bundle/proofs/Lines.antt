@@ -8,7 +8,6 @@ use Rattle.std.specs.Prelude.{option_to_list}
 use Rattle.std.specs.List.{AllByRecursion}
 use Rattle.std.specs.Option.{option_map}
 use Rattle.cm_lemmas.proofs.Lists.{all_left, all_right}
-use Rattle.cm_types.specs.Signatures.{NamedExtern}
 use Rattle.cm_validate_model.specs.Spaces.{Spaces}
 use Rattle.cm_match_model.specs.declared.plan.PlanLine.{PlanLine}
 use Rattle.cm_match_model.specs.Imports.{ImportAt, LinkSet, all_imports_from, imports_from, imports_of, link_of}

@@ -1,5 +1,5 @@
 -- The names that are written are those that are read.
-use Rattle.std.proofs.Common.{◌≡◌, ℕ, suc, ◌+◌, ◌<◌, ◌≤◌, ◌^◌, List, [], ◌∷◌, ◌++◌, length, true, Result, Ok, Err, refl, sym, ap, ◌∙◌, arith}
+use Rattle.std.proofs.Common.{◌≡◌, ℕ, suc, ◌<◌, ◌^◌, List, [], ◌∷◌, ◌++◌, length, true, Result, Ok, Err, refl, ap, ◌∙◌, arith}
 use Rattle.std.proofs.lemmas.List.{length-append, append-nil}
 use Rattle.std.specs.List.{AllByRecursion, flat_map}
 use Rattle.std.specs.Prelude.{OnOk}
@@ -8,7 +8,6 @@ use Rattle.std.proofs.lemmas.Bool.Decides.{nat_tests}
 use Rattle.cm_leb.specs.NumbersWritten.{shortest_unsigned, unsigned_length}
 use Rattle.cm_leb.proofs.ShortestLaws.{shortest_unsigned-length}
 use Rattle.cm_binary_grammar.specs.declared.fault.End.TheVariants as end
-use Rattle.cm_binary_grammar.specs.Grammar.{times}
 use Rattle.cm_binary_grammar.specs.Spelling.{vec_spelling, blob_spelling}
 use Rattle.cm_binary_grammar.proofs.WrittenLaws.{Spelled, bind_written, last_written, fixed_written, chain_written}
 use Rattle.cm_lemmas.proofs.Lists.{all_spelled}

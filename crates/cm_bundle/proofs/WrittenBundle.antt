@@ -10,14 +10,13 @@ use Rattle.cm_binary_grammar.specs.Spelling.{vec_spelling, blob_spelling}
 use Rattle.cm_binary_grammar.proofs.WrittenLaws.{Spelled, each_written, done_written, bind_written, last_written, code_written, fixed_written, check_written, raw_written}
 use Rattle.cm_lemmas.proofs.Numbers.{eq_true}
 use Rattle.cm_lemmas.proofs.Lists.{all_spelled, map_length}
-use Rattle.cm_bundle.specs.Bundles.{IsBundle, bundle, spelled}
 use Rattle.cm_bundle.specs.declared.form.Sort.{Sort}
 use Rattle.cm_bundle.specs.declared.form.Sort.TheVariants as sorts
 use Rattle.cm_bundle.specs.declared.codes.Next.TheVariants as next
-use Rattle.cm_bundle.specs.declared.form.TheConstants.{BUNDLE_PREAMBLE, MAX_PARTS}
+use Rattle.cm_bundle.specs.declared.form.TheConstants.{MAX_PARTS}
 use Rattle.cm_bundle.specs.declared.spaces.Counts.{Counts}
-use Rattle.cm_bundle.specs.Trees.{ExportTree, SupplyTree, PartTree, BodyTree, BundleTree}
-use Rattle.cm_bundle.specs.Spelled.{Spaces, no_spaces, next_index, next_component, counted, all_counted, exports_of, sort_code, alias_spelled, supply_spelled, supplies_spelled, instance_spelled, part_spelled, exports_spelled, body_spelled, after_part, IsSupply, AreSupplied, custom_spelled}
+use Rattle.cm_bundle.specs.Trees.{ExportTree, SupplyTree, PartTree}
+use Rattle.cm_bundle.specs.Spelled.{Spaces, next_index, next_component, counted, all_counted, exports_of, sort_code, alias_spelled, supply_spelled, supplies_spelled, instance_spelled, part_spelled, exports_spelled, body_spelled, after_part, IsSupply, AreSupplied, custom_spelled}
 use Rattle.cm_bundle.specs.Grammar.{Production, this_number, bytes_of, text, sized, sort_of, part_instance, alias, aliases, supply, supplies, instance_of, exports_of_all, part, exports, body, custom, customs}
 use Rattle.cm_bundle.proofs.Shortest.{short_written, this_written}
 use Rattle.cm_bundle.proofs.Places.{Ordered, place_found, ordered_push, pushed_below}

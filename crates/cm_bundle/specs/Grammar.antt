@@ -1,7 +1,7 @@
 -- The grammar of parts and exports of bundles, and of custom sections: which bytes spell them, and
 -- what is the first fault of bytes that do not (Binary.md, whose names of the productions stand in
 -- brackets). `x ← g` reads one thing, and the next line what stands behind it.
-use Rattle.std.specs.Prelude.{◌≡◌, ℕ, zero, suc, ◌+◌, ◌-◌, ◌^◌, ◌≤◌, ◌<◌, ◌⊎◌, List, [], ◌∷◌, ◌++◌}
+use Rattle.std.specs.Prelude.{◌≡◌, ℕ, zero, suc, ◌-◌, ◌⊎◌, List, [], ◌∷◌, ◌++◌}
 use Rattle.std.specs.Prelude.{length, Bool, true, false, Result, Ok, Err, Option, ◌==◌}
 use Rattle.std.specs.Prelude.{if◌then◌else◌, is_some}
 use Rattle.std.specs.List.{position}

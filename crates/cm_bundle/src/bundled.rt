@@ -5,7 +5,6 @@ ghost use Rattle.std.specs.List.{AllByRecursion, enumerate_from};
 ghost use Rattle.cm_match_model.specs.Imports.{all_imports_from};
 ghost use Rattle.cm_match_model.specs.Links.{lines_of};
 ghost use Rattle.cm_match.specs.Linked.{set_in};
-ghost use Rattle.cm_bundle.specs.Fronts.{spaces_behind};
 ghost use Rattle.cm_bundle.specs.Spelled.{AreSupplied};
 ghost use Rattle.cm_bundle.specs.Trees.{bundle_tree, group_tree, part_tree};
 ghost use Rattle.cm_bundle.specs.Bundled.{bundle_with, first_part, part_of};
@@ -40,9 +39,8 @@ pub fn bundle_with<'a>(
     ensures bundle { IfOk result (λ b. bundle_tree b ≡ bundle_with (set_in linked.now)
         (map group_tree front.now) (map (λ f. f.now) files.now) exporter
         (map (λ c. c.now) customs.now)) }
-    ensures supplied { IfOk result (λ b.
-        AreSupplied (length (spaces_behind (bundle_tree b).front).places) (bundle_tree b).parts
-        (bundle_tree b).exports) }
+    ensures supplied { IfOk result (λ b. AreSupplied (first_part (map group_tree front.now))
+        (bundle_tree b).parts (bundle_tree b).exports) }
 {
     links_lead_earlier();
     let first = first_part(front);

@@ -40,8 +40,8 @@ fn are_same(one: &[Supply<'_>], other: &[Supply<'_>]) -> bool
     if one.len() != other.len() {
         return false;
     }
-    for (a, b) in one.iter().zip(other) {
-        if !is_same(a, b) {
+    for number in 0..one.len() {
+        if !is_same(&one[number], &other[number]) {
             return false;
         }
     }
@@ -52,5 +52,8 @@ fn is_same(one: &Supply<'_>, other: &Supply<'_>) -> bool
     ensures { IsTrue result ↔ (supply_tree one.now ≡ supply_tree other.now) }
 {
     let (a, b) = (one.export, other.export);
-    one.name == other.name && a.part == b.part && a.name == b.name && sort_code(a.sort) == sort_code(b.sort)
+    one.name == other.name
+        && a.part == b.part
+        && a.name == b.name
+        && sort_code(a.sort) == sort_code(b.sort)
 }

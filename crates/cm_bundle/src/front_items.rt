@@ -213,10 +213,7 @@ pub fn supplies_of<'a>(
 }
 
 /// These imports, each under its name, as they are passed on to parts.
-fn passed_on<'a>(
-    alloc: Global,
-    imports: &[BundleImport<'a>],
-) -> Result<Vec<Supply<'a>>, AllocError>
+fn passed_on<'a>(alloc: Global, imports: &[BundleImport<'a>]) -> Result<Vec<Supply<'a>>, AllocError>
     ensures supplies { IfOk result (λ v. map supply_tree v.items
         ≡ map passed_on (map import_tree imports.now)) }
     ensures count { IfOk result (λ v. length v.items ≡ length imports.now) }

@@ -118,10 +118,7 @@ pub fn read_front<'a>(
 }
 
 /// The index spaces behind a front.
-pub fn spaces_behind(
-    alloc: Global,
-    front: &[ImportGroup<'_>],
-) -> Result<FrontSpaces, AllocError>
+pub fn spaces_behind(alloc: Global, front: &[ImportGroup<'_>]) -> Result<FrontSpaces, AllocError>
     requires { length front.now ≤ MAX_PARTS }
     ensures spaces { IfOk result (λ s. spaces_of s ≡ spaces_behind (map group_tree front.now)) }
     ensures functions { IfOk result (λ s. s.counts.functions < 2 ^ 61) }
@@ -135,11 +132,7 @@ pub fn spaces_behind(
 }
 
 /// Appends the sections of a group.
-fn write_group(
-    alloc: Global,
-    out: &mut Vec<u8>,
-    group: &ImportGroup<'_>,
-) -> Result<(), WriteFault>
+fn write_group(alloc: Global, out: &mut Vec<u8>, group: &ImportGroup<'_>) -> Result<(), WriteFault>
     ensures { WritesGroup (group_tree group.now) out.old.items out.new.items result }
 {
     if !are_imports(alloc, group.imports)? || !are_type_aliases(alloc, group.aliases)? {

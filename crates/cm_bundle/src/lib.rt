@@ -30,8 +30,8 @@ mod writing;
 pub use bundling::{BundlingFault, bundle, unbundle};
 pub use fault::{BundleFault, BundleReason};
 pub use form::{
-    BUNDLE_PREAMBLE, Bundle, BundleImport, ImportGroup, MAX_PARTS, Part, PartExport, PartName, Sort,
-    Supply,
+    BUNDLE_PREAMBLE, Bundle, BundleImport, ImportGroup, MAX_PARTS, Part, PartExport, PartName,
+    Sort, Supply,
 };
 pub use front_items::imports_of;
 pub use names::part_names;

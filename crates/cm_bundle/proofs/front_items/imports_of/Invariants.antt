@@ -1,6 +1,5 @@
 use Rattle.std.proofs.Common.{◌≡◌, ◌++◌, ◌*◌, ◌^◌, ◌≤◌, length, map, drop}
-use Rattle.std.specs.List.{flat_map}
-use Rattle.cm_bundle.specs.Fronts.{imports_in, imports_of}
+use Rattle.cm_bundle.specs.Fronts.{imports_of}
 use Rattle.cm_bundle.specs.Trees.{group_tree, import_tree}
 use Rattle.cm_bundle.proofs.front_items.imports_of.Given as goal
 

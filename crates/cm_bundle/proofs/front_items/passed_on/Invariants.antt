@@ -1,4 +1,4 @@
-use Rattle.std.proofs.Common.{◌≡◌, ◌++◌, ◌+◌, length, map, drop}
+use Rattle.std.proofs.Common.{◌≡◌, ◌++◌, length, map, drop}
 use Rattle.cm_bundle.specs.Fronts.{passed_on}
 use Rattle.cm_bundle.specs.Trees.{import_tree, supply_tree}
 use Rattle.cm_bundle.proofs.front_items.passed_on.Given as goal

@@ -1,7 +1,6 @@
-use Rattle.std.proofs.Common.{◌<◌, ◌≡◌, ◌++◌, length, map, arith}
+use Rattle.std.proofs.Common.{◌<◌, length, map, arith}
 use Rattle.std.proofs.lemmas.Grind.{common_steps}
 use Rattle.cm_lemmas.proofs.Lists.{map_length}
-use Rattle.cm_bundle.specs.Fronts.{imported_spelled}
 use Rattle.cm_bundle.specs.Room.{spaces_of}
 use Rattle.cm_bundle.specs.Trees.{group_tree, supply_tree}
 use Rattle.cm_bundle.proofs.FrontWritten.{front_appended, front_spaced}
