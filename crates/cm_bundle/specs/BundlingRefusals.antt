@@ -8,12 +8,14 @@ use Rattle.cm_bundle.specs.declared.bundling.BundlingFault.TheVariants as faults
 use Rattle.cm_bundle.specs.Trees.{GroupTree, BundleTree}
 
 -- There is a file for each component that is a part, and a component that exports.
-pub record AreThere (set : LinkSet) (front : List GroupTree) (files : List (List ℕ)) (exporter : ℕ) : Type 0 where
+pub record AreThere (set : LinkSet) (front : List GroupTree) (files : List (List ℕ)) (exporter : ℕ)
+    : Type 0 where
   pub each : first_part front + length files ≡ length set.spaces
   pub exporter_there : exporter < length set.spaces
 
 -- And the front is that of the set.
-pub record AreComplete (set : LinkSet) (front : List GroupTree) (files : List (List ℕ)) (exporter : ℕ) : Type 0 where
+pub record AreComplete (set : LinkSet) (front : List GroupTree) (files : List (List ℕ))
+    (exporter : ℕ) : Type 0 where
   pub there : AreThere set front files exporter
   pub fits : FrontFits set front
 
