@@ -4,14 +4,16 @@ use crate::fault::Fault;
 use crate::loaded_files::LoadedFiles;
 use crate::loading::{load_bytes, of_file};
 use crate::taking::is_bundle;
+use cm_match_model::Candidate;
 use cm_stubs::caller;
 use cm_tool_commands::{Checked, checked_of, signature};
+use cm_tool_help_texts::Escaped;
 use cm_types_arena::{Externs, NumberedExterns, Signature};
 use std::alloc::{AllocError, Global};
 
 /// What the component of a file of this name, whose bytes these are, imports and exports. A bundle
 /// has to be that of its parts, linked as its arguments say: it imports nothing, and exports what
-/// its exporter does.
+/// its exporter does. An open one is refused.
 pub fn signature_in<'a>(
     alloc: Global,
     name: &'a str,
@@ -30,7 +32,14 @@ fn bundle_signature<'a>(
     bytes: Vec<u8>,
 ) -> Result<Signature, Fault<'a>> {
     let loaded = LoadedFiles::of_bundle(alloc, name, bytes)?;
-    let exporter = loaded.inside(alloc, 0)?.exporter;
+    let exporter = loaded.inside(alloc)?.exporter;
+    if loaded.open_bundle(alloc)?.is_some() {
+        let name = Escaped(name);
+        let text = format!(in alloc;
+            "{name}: it is an open bundle: name the files that it is made of"
+        )?;
+        return Err(Fault::Refused(text));
+    }
     match loaded.files().get(exporter) {
         Some(part) => exports_alone(alloc, part.check(alloc)?),
         None => Err(Fault::Memory),
@@ -47,6 +56,27 @@ fn exports_alone<'a>(alloc: Global, checked: Checked<'_>) -> Result<Signature, F
         Ok(checked) => Ok(last_imports(alloc, checked, count)?),
         Err(bad) => Err(of_file(bad, String::new(alloc))),
     }
+}
+
+/// The signature of a component that imports what this one does and nothing serves, and exports
+/// nothing.
+pub(crate) fn imports_alone(
+    alloc: Global,
+    checked: Checked<'_>,
+    row: &[Candidate],
+) -> Result<Signature, AllocError> {
+    let externs = checked.into_externs();
+    let mut open = Vec::new(alloc);
+    for (import, served) in externs.imports.into_iter().zip(row) {
+        if *served == Candidate::None {
+            open.push(import)?;
+        }
+    }
+    Ok(Signature::new(
+        externs.types,
+        Externs::OfComponent(NumberedExterns::unnumbered(alloc, open)),
+        Externs::OfComponent(NumberedExterns::unnumbered(alloc, Vec::new(alloc))),
+    ))
 }
 
 /// The signature of a component that exports what are the last imports of this one, so many.
