@@ -10,7 +10,7 @@ _hux() {
         show) words="--json --quiet --help" ;;
         core) words="--json --quiet --help" ;;
         conform) words="--wit --world --json --quiet --help" ;;
-        link) words="--out --export --serve --nearest --mermaid --json --quiet --help" ;;
+        link) words="--out --export --open --serve --nearest --mermaid --json --quiet --help" ;;
         unbundle) words="--out --json --quiet --help" ;;
         plug) words="--plug --out --serve --json --quiet --help" ;;
         play) words="--script --serve --nearest --values --mermaid --messages --json --quiet --help" ;;

@@ -33,6 +33,7 @@ complete -c hux -n '__fish_seen_subcommand_from conform' -s q -l quiet -d 'Print
 complete -c hux -n '__fish_seen_subcommand_from conform' -s h -l help -d 'Print help'
 complete -c hux -n '__fish_seen_subcommand_from link' -s o -l out -r -d 'Writes the components as one file'
 complete -c hux -n '__fish_seen_subcommand_from link' -l export -x -d 'Exports what this component does, not the last'
+complete -c hux -n '__fish_seen_subcommand_from link' -l open -d 'Leaves imports open that nothing serves: OUT imports them'
 complete -c hux -n '__fish_seen_subcommand_from link' -l serve -x -d 'Which file serves an import, or IMPORTER/IMPORT; may be given again'
 complete -c hux -n '__fish_seen_subcommand_from link' -l nearest -d 'Of several files that fit the last one serves'
 complete -c hux -n '__fish_seen_subcommand_from link' -l mermaid -d 'Prints a Mermaid graph of components and imports'

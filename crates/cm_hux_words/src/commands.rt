@@ -355,8 +355,8 @@ prints
         about: "Links components: each imports from those before it",
         example: "With -o it writes them as one component that other runtimes read: a bundle. It has
 each file, byte for byte, and its name, and exports what the last one does, or the one that
---export counts from 0; what the others export is hidden then. So a host in OUT serves
-the files of OUT alone: with --open OUT may be linked behind a host that others use too.
+--export counts from 0; what the others export is hidden then. Where other components want
+the same host, leave it out: with --open OUT imports what nothing serves.
 
 Where several files export what an import fits, --serve says which serves it, or
 PROVIDER/EXPORT. A file is named by its name without folder and .wasm, or by its
