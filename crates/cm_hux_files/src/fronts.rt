@@ -198,10 +198,20 @@ pub(crate) fn stub_of<'a>(
     name: &'a str,
     front: &[ImportGroup<'_>],
 ) -> Result<Component, Fault<'a>> {
+    let imports = signature_of_front(alloc, name, front)?;
+    Ok(provider(alloc, &[imports])?)
+}
+
+/// What stands in front of the parts of the bundle of this name, as a component that has nothing
+/// else.
+pub(crate) fn signature_of_front<'a>(
+    alloc: Global,
+    name: &'a str,
+    front: &[ImportGroup<'_>],
+) -> Result<Signature, Fault<'a>> {
     let bytes = file_of(alloc, front)?;
     let front = load_part(alloc, name, String::from_str(alloc, name)?, bytes)?;
-    let imports = signature(alloc, front.check(alloc)?)?;
-    Ok(provider(alloc, &[imports])?)
+    Ok(signature(alloc, front.check(alloc)?)?)
 }
 
 /// The component that these sections are, as a file.

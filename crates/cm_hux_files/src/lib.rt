@@ -12,6 +12,7 @@ mod groups;
 mod loaded_files;
 mod loading;
 mod making;
+mod open_signing;
 mod opening;
 mod part_words;
 mod providers;

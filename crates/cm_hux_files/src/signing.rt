@@ -3,17 +3,17 @@
 use crate::fault::Fault;
 use crate::loaded_files::LoadedFiles;
 use crate::loading::{load_bytes, of_file};
+use crate::open_signing::open_signature;
 use crate::taking::is_bundle;
 use cm_match_model::Candidate;
 use cm_stubs::caller;
 use cm_tool_commands::{Checked, checked_of, signature};
-use cm_tool_help_texts::Escaped;
 use cm_types_arena::{Externs, NumberedExterns, Signature};
 use std::alloc::{AllocError, Global};
 
 /// What the component of a file of this name, whose bytes these are, imports and exports. A bundle
-/// has to be that of its parts, linked as its arguments say: it imports nothing, and exports what
-/// its exporter does. An open one is refused.
+/// has to be that of its parts, linked as its arguments say: it imports nothing, or what stands in
+/// front of them, and exports what its exporter does.
 pub fn signature_in<'a>(
     alloc: Global,
     name: &'a str,
@@ -32,18 +32,15 @@ fn bundle_signature<'a>(
     bytes: Vec<u8>,
 ) -> Result<Signature, Fault<'a>> {
     let loaded = LoadedFiles::of_bundle(alloc, name, bytes)?;
-    let exporter = loaded.inside(alloc)?.exporter;
-    if loaded.open_bundle(alloc)?.is_some() {
-        let name = Escaped(name);
-        let text = format!(in alloc;
-            "{name}: it is an open bundle: name the files that it is made of"
-        )?;
-        return Err(Fault::Refused(text));
-    }
-    match loaded.files().get(exporter) {
-        Some(part) => exports_alone(alloc, part.check(alloc)?),
-        None => Err(Fault::Memory),
-    }
+    let arguments = loaded.inside(alloc)?;
+    let Some(part) = loaded.files().get(arguments.exporter) else {
+        return Err(Fault::Memory);
+    };
+    let Some((name, bundle)) = loaded.open_bundle(alloc)? else {
+        return exports_alone(alloc, part.check(alloc)?);
+    };
+    let given = arguments.given_to(arguments.exporter);
+    open_signature(alloc, name, &bundle.front, part, given)
 }
 
 /// The signature of a component that exports what this one does, and imports nothing: the exports

@@ -73,6 +73,14 @@ pub(crate) struct Arguments {
 }
 
 impl Arguments {
+    /// What the imports of a part are given.
+    pub(crate) fn given_to(&self, part: usize) -> &[Given] {
+        match self.given.get(part) {
+            Some(given) => given.as_slice(),
+            None => &[],
+        }
+    }
+
     /// What serves the imports of the parts; nothing serves one that is given what the bundle
     /// imports.
     pub(crate) fn served(&self, alloc: Global) -> Result<Served, AllocError> {
