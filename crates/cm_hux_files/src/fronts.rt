@@ -118,8 +118,8 @@ fn kind_of(section: &[Section]) -> Option<Kind> {
     }
 }
 
-/// The contents of the only one of these sections: of a file of it, what stands behind the preamble,
-/// the id and the size.
+/// The contents of the only one of these sections: of a file of it, what stands behind the
+/// preamble, the id and the size.
 fn contents_of(alloc: Global, section: &[Section]) -> Result<Vec<u8>, AllocError> {
     let file = write_file(alloc, section)?;
     let mut is_contents = false;

@@ -13,10 +13,10 @@ use cm_types::ExternName;
 use cm_types_arena::{Extern, ExternDesc, Externs, NumberedExterns, Signature, Types};
 use std::alloc::{AllocError, Global};
 
-/// What the open bundle of this name imports, and what it exports: that is what this part does, whose
-/// imports are given this. The types of both stand in one arena: those of a component that has the
-/// imports of the bundle and of the part, where one is given the other under one name, and what the
-/// part exports under names of their own.
+/// What the open bundle of this name imports, and what it exports: what this part does, whose
+/// imports are given this. The types of both stand in one arena: that of a component that has the
+/// imports of the bundle and of the part, where one is given the other under one name, and what
+/// the part exports under names of their own.
 pub(crate) fn open_signature<'a>(
     alloc: Global,
     name: &'a str,

@@ -34,8 +34,8 @@ impl Served {
         Ok(open)
     }
 
-    /// The links of the imports. One that several exports may serve has none, and sees them all; the
-    /// link of one that nothing serves is to its own component, of which it sees no export.
+    /// The links of the imports. One that several exports may serve has none, and sees them all;
+    /// the link of one that nothing serves is to its own component, of which it sees no export.
     pub(crate) fn links(&self, alloc: Global) -> Result<Vec<Vec<Option<Link>>>, AllocError> {
         let mut links = Vec::with_capacity(alloc, self.rows.len())?;
         for (component, row) in self.rows.iter().enumerate() {

@@ -20,8 +20,8 @@ use std::alloc::{AllocError, Global};
 /// words the one of the last provider before the import. A word `IMPORTER/IMPORT=PROVIDER` comes
 /// before these. Without a word an import is served where one component alone before it has an
 /// export for it. The parts of a bundle among the files are linked as it says; what it imports is
-/// served as the import of a file in its place. `Usage` comes where a word names nothing, or two are
-/// of one import of one importer, and `Refused` where one serves nothing.
+/// served as the import of a file in its place. `Usage` comes where a word names nothing, or two
+/// are of one import of one importer, and `Refused` where one serves nothing.
 pub(crate) fn served_by(
     alloc: Global,
     files: &[FileName<'_>],
