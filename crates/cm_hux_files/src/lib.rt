@@ -8,6 +8,7 @@ mod ending;
 mod fault;
 mod fault_objects;
 mod fronts;
+mod gathered;
 mod groups;
 mod loaded_files;
 mod loading;

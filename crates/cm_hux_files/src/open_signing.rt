@@ -2,6 +2,7 @@
 
 use crate::fault::Fault;
 use crate::fronts::{signature_of_front, valid_stub};
+use crate::gathered::gathered;
 use crate::loading::Loaded;
 use crate::taking::Given;
 use cm_bundle::ImportGroup;
@@ -10,7 +11,7 @@ use cm_stubs::{caller, provider};
 use cm_tool_commands::{Checked, signature};
 use cm_tool_help_texts::Escaped;
 use cm_types::ExternName;
-use cm_types_arena::{Extern, ExternDesc, Externs, NumberedExterns, Signature, Types};
+use cm_types_arena::{Extern, ExternDesc, Externs, Signature};
 use std::alloc::{AllocError, Global};
 
 /// What the open bundle of this name imports, and what it exports: what this part does, whose
@@ -34,7 +35,7 @@ pub(crate) fn open_signature<'a>(
     }
     let stub = provider(alloc, &[imported, asked])?;
     let stub = caller(alloc, &signature(alloc, valid_stub(alloc, &stub)?)?)?;
-    Ok(split(alloc, valid_stub(alloc, &stub)?, &names, exports)?)
+    split(alloc, valid_stub(alloc, &stub)?, &names, exports)
 }
 
 /// The fault of an open bundle with an import of a name that stands for something else here.
@@ -66,7 +67,7 @@ fn asked_of(
     part: Checked<'_>,
     given: &[Given],
     exports: &[Extern],
-) -> Result<Signature, AllocError> {
+) -> Result<Signature, Fault<'static>> {
     let externs = part.into_externs();
     let mut asked = externs.imports;
     for (number, import) in asked.iter_mut().enumerate() {
@@ -78,7 +79,7 @@ fn asked_of(
             desc: shared(&export.desc)?,
         })?;
     }
-    Ok(signature_with(alloc, externs.types, asked, Vec::new(alloc)))
+    gathered(alloc, externs.types, asked, Vec::new(alloc))
 }
 
 /// The name of an import of a part as it is asked: that of the bundle's import that it is given, or
@@ -135,20 +136,6 @@ fn shared(desc: &ExternDesc) -> Result<ExternDesc, AllocError> {
     }
 }
 
-/// The signature of a component that imports and exports this, with types of this arena.
-fn signature_with(
-    alloc: Global,
-    types: Types,
-    imports: Vec<Extern>,
-    exports: Vec<Extern>,
-) -> Signature {
-    Signature::new(
-        types,
-        Externs::OfComponent(NumberedExterns::unnumbered(alloc, imports)),
-        Externs::OfComponent(NumberedExterns::unnumbered(alloc, exports)),
-    )
-}
-
 /// The signature that imports what this component does under these names, and exports what it
 /// imports in their stead.
 fn split(
@@ -156,7 +143,7 @@ fn split(
     whole: Checked<'_>,
     names: &[ExternName],
     exports: &[Extern],
-) -> Result<Signature, AllocError> {
+) -> Result<Signature, Fault<'static>> {
     let externs = whole.into_externs();
     let mut listed = Listed::of(alloc, externs.imports)?;
     let mut imported = Vec::with_capacity(alloc, names.len())?;
@@ -167,7 +154,7 @@ fn split(
     for (number, export) in exports.iter().enumerate() {
         listed.move_to(&mut exported, &name_of_export(alloc, number)?, &export.name)?;
     }
-    Ok(signature_with(alloc, externs.types, imported, exported))
+    gathered(alloc, externs.types, imported, exported)
 }
 
 /// Imports that are found by their names.

@@ -1,6 +1,7 @@
 //! What files import and export.
 
 use crate::fault::Fault;
+use crate::gathered::gathered;
 use crate::loaded_files::LoadedFiles;
 use crate::loading::{load_bytes, of_file};
 use crate::open_signing::open_signature;
@@ -61,7 +62,7 @@ pub(crate) fn imports_alone(
     alloc: Global,
     checked: Checked<'_>,
     row: &[Candidate],
-) -> Result<Signature, AllocError> {
+) -> Result<Signature, Fault<'static>> {
     let externs = checked.into_externs();
     let mut open = Vec::new(alloc);
     for (import, served) in externs.imports.into_iter().zip(row) {
@@ -69,11 +70,7 @@ pub(crate) fn imports_alone(
             open.push(import)?;
         }
     }
-    Ok(Signature::new(
-        externs.types,
-        Externs::OfComponent(NumberedExterns::unnumbered(alloc, open)),
-        Externs::OfComponent(NumberedExterns::unnumbered(alloc, Vec::new(alloc))),
-    ))
+    gathered(alloc, externs.types, open, Vec::new(alloc))
 }
 
 /// The signature of a component that exports what are the last imports of this one, so many.
