@@ -7,7 +7,7 @@ use cm_hux_play::files::{
     write_arguments, write_file, write_whole,
 };
 use cm_hux_play::{component_names, write_graph};
-use cm_hux_words::{Habits, LinkWords, PlugWords};
+use cm_hux_words::{Habits, LinkWords, PlugWords, ServeWords};
 use cm_tool_script::read_u32;
 use std::alloc::Global;
 use std::io;
@@ -24,31 +24,15 @@ pub(crate) fn run_link<'a, F: Files, S: Streams, O: Write>(
     streams: &mut S,
     out: &mut O,
 ) -> Result<Ending, Fault<'a>> {
-    let export = export_of(alloc, words.export)?;
-    keep_inputs(alloc, words.out, &words.files)?;
-    let (mut loaded, unread) = load_files(alloc, files, &words.files);
-    loaded.serve_by(alloc, &words.serve)?;
-    let components = loaded.check(alloc, unread)?;
-    let served = loaded.served(alloc, &components)?;
-    if words.open && !words.mermaid {
-        tell_or_write_open(alloc, &served.open(alloc, &components)?, habits, out)?;
-    }
-    let front = front_of(alloc, &loaded, &served, words.open)?;
-    let linked = linked_behind(alloc, &loaded, &front, components, &served)?;
-    let set = LinkedFiles {
+    let linking = Linking {
         alloc,
-        loaded: &loaded,
-        front: &front,
-        linked: &linked,
         habits,
+        out: words.out,
+        export: export_of(alloc, words.export)?,
+        is_open: words.open,
+        mermaid: words.mermaid,
     };
-    set.write(words.out, export, streams, out)?;
-    if words.mermaid {
-        set.tell_graph(out)?;
-    } else {
-        set.tell_links(out)?;
-    }
-    Ok(Ending::Done)
+    linking.run(&words.files, &words.serve, files, streams, out)
 }
 
 /// Links the components of files as `run_link` does; imports may be left open.
@@ -60,24 +44,92 @@ pub(crate) fn run_plug<'a, F: Files, S: Streams, O: Write>(
     streams: &mut S,
     out: &mut O,
 ) -> Result<Ending, Fault<'a>> {
-    keep_inputs(alloc, words.out, &words.files)?;
-    let (mut loaded, unread) = load_files(alloc, files, &words.files);
-    loaded.serve_by(alloc, &words.serve)?;
-    let components = loaded.check(alloc, unread)?;
-    let served = loaded.served(alloc, &components)?;
-    tell_or_write_open(alloc, &served.open(alloc, &components)?, habits, out)?;
-    let front = front_of(alloc, &loaded, &served, true)?;
-    let linked = linked_behind(alloc, &loaded, &front, components, &served)?;
-    let set = LinkedFiles {
+    let linking = Linking {
         alloc,
-        loaded: &loaded,
-        front: &front,
-        linked: &linked,
         habits,
+        out: words.out,
+        export: None,
+        is_open: true,
+        mermaid: false,
     };
-    set.write(words.out, None, streams, out)?;
-    set.tell_links(out)?;
-    Ok(Ending::Done)
+    linking.run(&words.files, &words.serve, files, streams, out)
+}
+
+/// How files are linked.
+#[derive(Clone, Copy)]
+struct Linking<'a> {
+    alloc: Global,
+    habits: Habits,
+    /// The file that the set is written to.
+    out: Option<&'a str>,
+    /// The number of the component whose exports that file has; those of the last file else.
+    export: Option<usize>,
+    /// Whether imports that nothing serves are left open.
+    is_open: bool,
+    mermaid: bool,
+}
+
+impl<'a> Linking<'a> {
+    fn run<F: Files, S: Streams, O: Write>(
+        self,
+        names: &[&'a str],
+        serve: &ServeWords<'a>,
+        files: &mut F,
+        streams: &mut S,
+        out: &mut O,
+    ) -> Result<Ending, Fault<'a>> {
+        keep_inputs(self.alloc, self.out, names)?;
+        let (mut loaded, unread) = load_files(self.alloc, files, names);
+        loaded.serve_by(self.alloc, serve)?;
+        self.link(&loaded, unread, streams, out)?;
+        Ok(Ending::Done)
+    }
+
+    /// Links what is loaded, and writes and prints it.
+    fn link<S: Streams, O: Write>(
+        self,
+        loaded: &LoadedFiles<'a>,
+        unread: Option<Fault<'a>>,
+        streams: &mut S,
+        out: &mut O,
+    ) -> Result<(), Fault<'a>> {
+        let components = loaded.check(self.alloc, unread)?;
+        let served = loaded.served(self.alloc, &components)?;
+        let front = self.front(loaded, &components, &served, out)?;
+        let linked = linked_behind(self.alloc, loaded, &front, components, &served)?;
+        let set = LinkedFiles {
+            alloc: self.alloc,
+            loaded,
+            front: &front,
+            linked: &linked,
+            habits: self.habits,
+        };
+        set.write(self.out, self.export, streams, out)?;
+        if self.mermaid {
+            set.tell_graph(out)
+        } else {
+            set.tell_links(out)
+        }
+    }
+
+    /// What stands in front of the components for their imports that nothing serves, of which it
+    /// prints a line each; nothing where all is served, and where no import may be left open.
+    fn front<O: Write>(
+        self,
+        loaded: &LoadedFiles<'a>,
+        components: &[Checked<'_>],
+        served: &Served,
+        out: &mut O,
+    ) -> Result<Option<Front>, Fault<'a>> {
+        if !self.is_open {
+            return Ok(None);
+        }
+        if !self.mermaid {
+            let open = served.open(self.alloc, components)?;
+            tell_or_write_open(self.alloc, &open, self.habits, out)?;
+        }
+        loaded.front(self.alloc, served)
+    }
 }
 
 /// Refuses to write the set over one of its files.
@@ -86,20 +138,6 @@ fn keep_inputs(alloc: Global, out: Option<&str>, files: &[&str]) -> Result<(), F
         Some(out) => refuse_to_overwrite(alloc, out, files),
         None => Ok(()),
     }
-}
-
-/// What stands in front of files for what nothing serves of what they import; nothing where all is
-/// served, and where no import may be left open.
-fn front_of<'a>(
-    alloc: Global,
-    loaded: &LoadedFiles<'a>,
-    served: &Served,
-    is_open: bool,
-) -> Result<Option<Front>, Fault<'a>> {
-    if !is_open {
-        return Ok(None);
-    }
-    loaded.front(alloc, served)
 }
 
 /// The linked set of the components of files, behind what stands in front of them.

@@ -35,7 +35,7 @@ pub use cm_stubs::{Component, caller, provider_for};
 pub use cm_tool_commands::{
     Asked, Checked, Disk, Fault as ToolFault, FileFault, Files, LIMIT, Linked, Outcome, Unfit,
     UnfitReason, Usage, checked_of, conform_component, read_file, signature, text_of, words_of,
-    world_of, write_plan,
+    world_of,
 };
 pub use cm_tool_help_texts::{Escaped, wit_help, world_help};
 pub use cm_tool_help_types::conform_help;
