@@ -7,9 +7,9 @@ use cm_bundle::{
 use cm_rows::{Line, write_bytes};
 use std::alloc::Global;
 
-/// Writes `front TYPES IMPORTS ALIASES` for each group of sections in front of the parts, `part FILE
-/// NAME=SORT:PART:EXPORT ..` for each part, `exports ..`, `custom BYTES` for each custom section,
-/// and `name PART NAME` for each name of a part.
+/// Writes `front TYPES IMPORTS ALIASES` for each group of sections in front of the parts, `part
+/// FILE NAME=SORT:PART:EXPORT ..` for each part, `exports ..`, `custom BYTES` for each custom
+/// section, and `name PART NAME` for each name of a part.
 pub fn write_bundle(alloc: Global, bundle: &Bundle<'_>, line: &mut Line) {
     for group in &bundle.front {
         write_group(group, line);
