@@ -3,8 +3,10 @@
 
 It reads a component that nests components, counts its index spaces, and holds each instantiation
 against what the nested component imports: each import is given once, under its name and with its
-sort, by an alias of what an instance before it exports; nothing else is given. It knows nothing of
-the form in which bundles are written, so any order of these sections is read.
+sort, by an alias of what an instance before it exports; nothing else is given. What the component
+itself imports is counted too; types are not looked at, and what an imported instance exports is
+taken on trust. It knows nothing of the form in which bundles are written, so any order of these
+sections is read.
 
 bench/second_bundle.py BUNDLE [FILE..] prints how many components, arguments and exports there are.
 Where files are named, the nested components must be these, byte for byte and in this order.
@@ -16,6 +18,8 @@ from pathlib import Path
 PREAMBLE = bytes.fromhex("0061736d0d000100")
 SORTS = {0x01: "func", 0x02: "value", 0x03: "type", 0x04: "component", 0x05: "instance"}
 COUNTED = ("func", "type", "component", "instance")
+# What an instance exports that is imported: not known here.
+IMPORTED = {}
 
 
 class Fault(Exception):
@@ -149,11 +153,13 @@ class Nested:
 
 
 class Bundle:
-    """The index spaces of a bundle. An instance is known by the sorts that it exports, or not."""
+    """The index spaces of a bundle. An instance is known by the sorts that it exports, or not, and
+    one that is imported as that."""
 
     def __init__(self, data):
         self.components, self.instances, self.counts = [], [], dict.fromkeys(COUNTED, 0)
-        self.nested, self.arguments, self.exports = [], 0, {}
+        self.nested, self.arguments, self.exports, self.imports = [], 0, {}, {}
+        self.made = 0
         for kind, inside in sections(data):
             self.section(kind, inside)
 
@@ -167,6 +173,11 @@ class Bundle:
             inside.vector(lambda: self.instance(inside))
         elif kind == 0x06:
             inside.vector(lambda: self.alias(inside))
+        elif kind == 0x07:
+            self.counts["type"] += inside.number()
+            inside.at = inside.end
+        elif kind == 0x0A:
+            inside.vector(lambda: self.imported(inside))
         elif kind == 0x0B:
             inside.vector(lambda: self.export(inside))
         else:
@@ -192,7 +203,7 @@ class Bundle:
         exports = self.instances[index]
         if exports is None:
             inside.fault(f"instance {index} is not made here")
-        if exports.get(name) != sort:
+        if exports is not IMPORTED and exports.get(name) != sort:
             inside.fault(f"instance {index} exports no {sort} {name}")
         self.define(sort, None)
 
@@ -201,10 +212,32 @@ class Bundle:
         self.known(inside, sort, index)
         return name, sort
 
+    def imported(self, inside):
+        """What the bundle itself imports."""
+        name, sort = inside.extern_name(), extern_desc(inside)
+        if name in self.imports:
+            inside.fault(f"{name} stands twice")
+        self.imports[name] = sort
+        self.define(sort, IMPORTED)
+
+    def item(self, inside):
+        """What stands under a name in an instance that is made of other definitions."""
+        name, sort, index = inside.extern_name(), sort_of(inside), inside.number()
+        self.known(inside, sort, index)
+        return name, sort
+
     def instance(self, inside):
-        """An instance of a component, given all that the component imports and nothing else."""
-        if inside.byte() != 0x00:
-            inside.fault("an instance that is not made of a component")
+        """An instance of a component, given all that the component imports and nothing else; or one
+        of definitions that are there."""
+        form = inside.byte()
+        if form == 0x01:
+            items = inside.vector(lambda: self.item(inside))
+            if len(dict(items)) != len(items):
+                inside.fault("a name stands twice")
+            self.define("instance", dict(items))
+            return
+        if form != 0x00:
+            inside.fault("an instance of an unknown form")
         index = inside.number()
         self.known(inside, "component", index)
         given = inside.vector(lambda: self.argument(inside))
@@ -214,6 +247,7 @@ class Bundle:
         if dict(given) != nested.imports:
             inside.fault(f"component {index} imports {nested.imports} and is given {dict(given)}")
         self.arguments += len(given)
+        self.made += 1
         self.define("instance", nested.exports)
 
     def export(self, inside):
@@ -236,10 +270,10 @@ def main():
     if files and parts != [file.read_bytes() for file in files]:
         print(f"{path}: the nested components are not these files")
         return 1
-    made = len([it for it in bundle.instances if it is not None])
+    imports = f", {len(bundle.imports)} imports" if bundle.imports else ""
     print(
-        f"{path}: {len(parts)} components, {made} instances, {bundle.arguments} arguments,"
-        f" {len(bundle.exports)} exports"
+        f"{path}: {len(parts)} components, {bundle.made} instances, {bundle.arguments} arguments,"
+        f" {len(bundle.exports)} exports{imports}"
     )
     return 0
 

@@ -4,8 +4,9 @@ random sets for both.
 
 Sets of up to 16 components get names, some of them twice, words for `--serve` that mostly mean
 something, and in half of the sets `--nearest`. In some, files in a row that link by themselves are
-a bundle, which `hux link -o` has written. What this reader answers, the plan or how the line of the
-fault begins, is what `hux link` has to answer to the same words.
+a bundle, which `hux link -o` has written, or leave imports open in one that `hux link --open` has.
+What this reader answers, the plan or how the line of the fault begins, is what `hux link` has to
+answer to the same words.
 
 bench/second_chooser.py [COUNT [SEED]] links 1,000 sets, or so many, and prints how many had a plan,
 and which faults the others had. HUX names a program for ../hux.
@@ -19,7 +20,7 @@ import tempfile
 from dataclasses import dataclass, field
 from pathlib import Path
 
-from second_linker import MOST, TOP, Component, Unlinked, fits, likely_set, provider
+from second_linker import MOST, TOP, Component, Unlinked, fits, likely_set, numbers, provider
 
 NAMES = ("host", "log", "cache", "user", "a")
 
@@ -35,17 +36,31 @@ class Refused(Exception):
 class Files:
     """The components of files, in order, and what the files are called. A bundle is called as its
     last part, whose exports it has; its other parts have no name, and are not seen. Links are those
-    inside of bundles, by component and import, and parts what those are called."""
+    inside of bundles, by component and import, parts what those are called, and opens the names of
+    what bundles import in the place of imports of parts."""
 
     components: list
     names: list
     parts: dict = field(default_factory=dict)
     links: dict = field(default_factory=dict)
     inside: set = field(default_factory=set)
+    opens: dict = field(default_factory=dict)
 
     def exports(self, number):
         """What those behind a component see of it."""
         return self.components[number].exports if self.names[number] else []
+
+    def front(self, number):
+        """The first component that does not stand before this one, or before its bundle."""
+        return min(self.inside) if number in self.inside else number
+
+    def callers(self, number):
+        """The numbers by which words name a component as an importer."""
+        return (number, max(self.inside)) if number in self.inside else (number,)
+
+    def is_lone(self):
+        """Whether all are the parts of one bundle, and there is no other file."""
+        return len(self.inside) == len(self.names)
 
 
 def called(files, word):
@@ -93,17 +108,20 @@ def one_export(exports, name):
 
 def by_word(files, read, words, importer, name, used):
     """The link of an import by a word, if one is of it."""
-    own = [at for at, it in enumerate(read) if it[:2] == (importer, name)]
+    own = [
+        at for at, it in enumerate(read) if it[0] in files.callers(importer) and it[1] == name
+    ]
     if len(own) > 1:
         raise Refused(2, words[own[1]], "another word is of this import already")
+    front = files.front(importer)
     before = [
-        (it[2], at) for at, it in enumerate(read) if it[:2] == (None, name) and it[2] < importer
+        (it[2], at) for at, it in enumerate(read) if it[:2] == (None, name) and it[2] < front
     ]
     if not own and not before:
         return None
     at = own[0] if own else max(before)[1]
     _, _, number, export = read[at]
-    if number >= importer:
+    if number >= front:
         raise Refused(1, words[at], "its provider does not stand before")
     used.add(at)
     if export is not None:
@@ -118,10 +136,14 @@ def by_word(files, read, words, importer, name, used):
 
 
 def without_word(files, importer, name, is_nearest):
-    """The link of an import without a word: to the nearest, or the only one."""
-    before = [(number, one_export(files.exports(number), name)) for number in range(importer)]
+    """The link of an import without a word: to the nearest, or the only one; to its own component,
+    where nothing serves it."""
+    front = files.front(importer)
+    before = [(number, one_export(files.exports(number), name)) for number in range(front)]
     before = [it for it in before if it[1]]
-    if not before or not is_nearest and len(before) > 1:
+    if not before:
+        return importer, 0
+    if not is_nearest and len(before) > 1:
         return None
     number, there = before[-1]
     return (number, there[0]) if len(there) == 1 else None
@@ -129,15 +151,15 @@ def without_word(files, importer, name, is_nearest):
 
 def choices(files, words, is_nearest):
     """The links that the words choose, and those inside of bundles."""
-    if words and all(number in files.inside for number in range(len(files.names))):
-        if len([name for name in files.names if name]) == 1:
-            raise Refused(1, words[0], "a bundle is linked by its own arguments")
+    if words and files.is_lone():
+        raise Refused(1, words[0], "a bundle is linked by its own arguments")
     read = [read_word(files, word) for word in words]
     used, links = set(), dict(files.links)
     for importer, component in enumerate(files.components):
         for number, (name, _) in enumerate(component.imports):
-            if importer in files.inside:
+            if importer in files.inside and (importer, number) not in files.opens:
                 continue
+            name = files.opens.get((importer, number), name)
             link = by_word(files, read, words, importer, name, used)
             links[importer, number] = link or without_word(files, importer, name, is_nearest)
     for at, word in enumerate(words):
@@ -150,7 +172,9 @@ def plan(files, links):
     """The export that serves each import, by component and import."""
     found, seen = {}, []
     for importer, component in enumerate(files.components):
-        for number, _ in enumerate(component.imports):
+        for number, import_ in enumerate(component.imports):
+            if import_ is None:
+                continue
             link = links.get((importer, number))
             found[importer, number] = provider(files.components, seen, link, importer, number)
         seen += [(importer, at, *it) for at, it in enumerate(files.exports(importer))]
@@ -178,9 +202,9 @@ def random_word(rng, files):
     """A word that mostly means something; none where no import has what fits before it."""
     components, names = files.components, files.names
     served = [
-        (importer, name, at, have)
+        (importer, files.opens.get((importer, number), name), at, have)
         for importer, component in enumerate(components)
-        for name, _ in component.imports
+        for number, (name, _) in enumerate(component.imports)
         for at, it in enumerate(components[:importer])
         for have, _ in it.exports
         if fits(name, have) and (names[at] or rng.random() < 0.1)
@@ -215,6 +239,64 @@ def spelling(component):
     return component.spelling()
 
 
+def series(name):
+    """What compatible versions of an interface have alike, and the version."""
+    face, sign, version = name.partition("@")
+    if not sign:
+        return name, []
+    version = numbers(version)
+    fixed = next((at for at, it in enumerate(version) if it), 2) + 1
+    return (face, *version[:fixed]), version
+
+
+def open_names(components, opens):
+    """What a bundle imports in the place of these imports: the latest of compatible versions. None
+    where one name is of two sorts."""
+    names, sorts = {}, {}
+    for importer, number in opens:
+        name, sort = components[importer].imports[number]
+        key, version = series(name)
+        if sorts.setdefault(key, sort) != sort:
+            return None
+        if key not in names or version > series(names[key])[1]:
+            names[key] = name
+    return {at: names[series(components[at[0]].imports[at[1]][0])[0]] for at in opens}
+
+
+def open_part(rng, components):
+    """From which component to which some in a row are linked, how, and what they leave open."""
+    first = rng.randrange(len(components))
+    end = min(first + rng.choice((1, 2, 2, 3)), len(components))
+    part = Files(components[first:end], [str(it) for it in range(first, end)])
+    links = choices(part, [], True)
+    opens = [at for at, link in links.items() if link == (at[0], 0)]
+    try:
+        found = plan(without(part, opens), {at: it for at, it in links.items() if at not in opens})
+    except Unlinked:
+        return 0, 0, None, {}
+    names = open_names(part.components, opens)
+    return (0, 0, None, {}) if names is None else (first, end, found, names)
+
+
+@dataclass
+class Left:
+    """A component with some of its imports gone, each of which keeps its number."""
+
+    imports: list
+    exports: list
+
+
+def without(files, opens):
+    """These files without some imports."""
+    kept = []
+    for importer, it in enumerate(files.components):
+        imports = [
+            None if (importer, at) in opens else name for at, name in enumerate(it.imports)
+        ]
+        kept.append(Left(imports, it.exports))
+    return Files(kept, files.names)
+
+
 def linked_part(rng, components):
     """From which component to which some in a row link by themselves, and how, if any were found."""
     for _ in range(8):
@@ -234,12 +316,17 @@ def random_files(rng, hux, folder, components):
     names = [rng.choice(NAMES) + rng.choice(("", "2", "3")) for _ in components]
     words = [write(folder, at, *it) for at, it in enumerate(zip(names, map(spelling, components)))]
     files = Files(components, names)
-    first, end, found = linked_part(rng, components)
+    opens = {}
+    if rng.random() < 0.5:
+        first, end, found, opens = open_part(rng, components)
+    else:
+        first, end, found = linked_part(rng, components)
     if found is None or rng.random() < 0.3:
         return files, words
     bundle = f"{first}/{names[end - 1]}.set.wasm"
-    made = [hux, "link", "--nearest", *words[first:end], "-o", bundle]
+    made = [hux, "link", "--open", "--nearest", *words[first:end], "-o", bundle]
     subprocess.run(made, cwd=folder, capture_output=True, check=True)
+    files.opens = {(importer + first, number): name for (importer, number), name in opens.items()}
     files.inside = set(range(first, end))
     files.links = {
         (importer + first, number): (component + first, export)
@@ -251,7 +338,6 @@ def random_files(rng, hux, folder, components):
         files.parts[at] = f"{name}/{names[at] if is_only else at - first}"
     files.names[first:end] = [""] * (end - first - 1) + [name]
     return files, [*words[:first], bundle, *words[end:]]
-
 
 
 def main():
@@ -275,7 +361,7 @@ def main():
             )
             said = ran.stdout if status == 0 else ran.stderr[: len(text)]
             kind = "plan" if status == 0 else text.split(": ", 2)[-1].split(" in ")[0].strip(":")
-            kind += " with a bundle" if files.inside else ""
+            kind += " with an open bundle" if files.opens else " with a bundle" * bool(files.inside)
             kinds[kind] = kinds.get(kind, 0) + 1
             if (ran.returncode, said) != (status, text):
                 wrong += 1

@@ -1,19 +1,21 @@
 //! Linking the files of a command, and bundles of them.
 
-use crate::objects::{tell_arguments, tell_open, tell_plan, tell_written};
+use crate::objects::{ShownLine, shown_line, tell_arguments, tell_open, tell_plan, tell_written};
 use cm_hux_play::files::{
-    Bundle, Checked, Ending, Fault, Files, Linked, LoadedFiles, Streams, load_files, made,
-    open_imports, read_bundle, read_bytes, refuse_to_overwrite, tell_bytes, unwritten,
-    write_arguments, write_file, write_plan, write_whole,
+    Bundle, Checked, Ending, Fault, Files, Front, Linked, LoadedFiles, OpenImport, Served, Streams,
+    load_files, made, read_bundle, read_bytes, refuse_to_overwrite, tell_bytes, unwritten,
+    write_arguments, write_file, write_whole,
 };
 use cm_hux_play::{component_names, write_graph};
-use cm_hux_words::{Habits, LinkWords, PlugWords};
+use cm_hux_words::{Habits, LinkWords, PlugWords, ServeWords};
 use cm_tool_script::read_u32;
 use std::alloc::Global;
+use std::io;
 use std::io::Write;
 
 /// Links the components of files, and prints which export serves each import, or a graph of it.
-/// Before it prints it writes them as one file, where one is named.
+/// Before it prints it writes them as one file, where one is named. Where imports may be left open
+/// a line for each that is stands before, but for a graph.
 pub(crate) fn run_link<'a, F: Files, S: Streams, O: Write>(
     alloc: Global,
     words: &LinkWords<'a>,
@@ -22,28 +24,18 @@ pub(crate) fn run_link<'a, F: Files, S: Streams, O: Write>(
     streams: &mut S,
     out: &mut O,
 ) -> Result<Ending, Fault<'a>> {
-    let export = export_of(alloc, words.export)?;
-    keep_inputs(alloc, words.out, &words.files)?;
-    let (mut loaded, unread) = load_files(alloc, files, &words.files);
-    loaded.serve_by(alloc, &words.serve)?;
-    let linked = loaded.link(alloc, unread)?;
-    let set = LinkedFiles {
+    let linking = Linking {
         alloc,
-        loaded: &loaded,
-        linked: &linked,
         habits,
+        out: words.out,
+        export: export_of(alloc, words.export)?,
+        is_open: words.open,
+        mermaid: words.mermaid,
     };
-    set.write(words.out, export, streams, out)?;
-    if words.mermaid {
-        set.tell_graph(out)?;
-    } else {
-        set.tell_links(out)?;
-    }
-    Ok(Ending::Done)
+    linking.run(&words.files, &words.serve, files, streams, out)
 }
 
-/// Links the components of files as `run_link` does, with a line before for each import that no
-/// component before exports.
+/// Links the components of files as `run_link` does; imports may be left open.
 pub(crate) fn run_plug<'a, F: Files, S: Streams, O: Write>(
     alloc: Global,
     words: &PlugWords<'a>,
@@ -52,19 +44,92 @@ pub(crate) fn run_plug<'a, F: Files, S: Streams, O: Write>(
     streams: &mut S,
     out: &mut O,
 ) -> Result<Ending, Fault<'a>> {
-    keep_inputs(alloc, words.out, &words.files)?;
-    let (mut loaded, unread) = load_files(alloc, files, &words.files);
-    loaded.serve_by(alloc, &words.serve)?;
-    let linked = link_with_open(alloc, &loaded, unread, habits, out)?;
-    let set = LinkedFiles {
+    let linking = Linking {
         alloc,
-        loaded: &loaded,
-        linked: &linked,
         habits,
+        out: words.out,
+        export: None,
+        is_open: true,
+        mermaid: false,
     };
-    set.write(words.out, None, streams, out)?;
-    set.tell_links(out)?;
-    Ok(Ending::Done)
+    linking.run(&words.files, &words.serve, files, streams, out)
+}
+
+/// How files are linked.
+#[derive(Clone, Copy)]
+struct Linking<'a> {
+    alloc: Global,
+    habits: Habits,
+    /// The file that the set is written to.
+    out: Option<&'a str>,
+    /// The number of the component whose exports that file has; those of the last file else.
+    export: Option<usize>,
+    /// Whether imports that nothing serves are left open.
+    is_open: bool,
+    mermaid: bool,
+}
+
+impl<'a> Linking<'a> {
+    fn run<F: Files, S: Streams, O: Write>(
+        self,
+        names: &[&'a str],
+        serve: &ServeWords<'a>,
+        files: &mut F,
+        streams: &mut S,
+        out: &mut O,
+    ) -> Result<Ending, Fault<'a>> {
+        keep_inputs(self.alloc, self.out, names)?;
+        let (mut loaded, unread) = load_files(self.alloc, files, names);
+        loaded.serve_by(self.alloc, serve)?;
+        self.link(&loaded, unread, streams, out)?;
+        Ok(Ending::Done)
+    }
+
+    /// Links what is loaded, and writes and prints it.
+    fn link<S: Streams, O: Write>(
+        self,
+        loaded: &LoadedFiles<'a>,
+        unread: Option<Fault<'a>>,
+        streams: &mut S,
+        out: &mut O,
+    ) -> Result<(), Fault<'a>> {
+        let components = loaded.check(self.alloc, unread)?;
+        let served = loaded.served(self.alloc, &components)?;
+        let front = self.front(loaded, &components, &served, out)?;
+        let linked = linked_behind(self.alloc, loaded, &front, components, &served)?;
+        let set = LinkedFiles {
+            alloc: self.alloc,
+            loaded,
+            front: &front,
+            linked: &linked,
+            habits: self.habits,
+        };
+        set.write(self.out, self.export, streams, out)?;
+        if self.mermaid {
+            set.tell_graph(out)
+        } else {
+            set.tell_links(out)
+        }
+    }
+
+    /// What stands in front of the components for their imports that nothing serves, of which it
+    /// prints a line each; nothing where all is served, and where no import may be left open.
+    fn front<O: Write>(
+        self,
+        loaded: &LoadedFiles<'a>,
+        components: &[Checked<'_>],
+        served: &Served,
+        out: &mut O,
+    ) -> Result<Option<Front>, Fault<'a>> {
+        if !self.is_open {
+            return Ok(None);
+        }
+        if !self.mermaid {
+            let open = served.open(self.alloc, components)?;
+            tell_or_write_open(self.alloc, &open, self.habits, out)?;
+        }
+        loaded.front(self.alloc, served)
+    }
 }
 
 /// Refuses to write the set over one of its files.
@@ -75,21 +140,18 @@ fn keep_inputs(alloc: Global, out: Option<&str>, files: &[&str]) -> Result<(), F
     }
 }
 
-/// The linked set of the components of files, of which it prints the open imports before.
-fn link_with_open<'a, 'b, O: Write>(
+/// The linked set of the components of files, behind what stands in front of them.
+fn linked_behind<'a, 'b>(
     alloc: Global,
     loaded: &'b LoadedFiles<'a>,
-    unread: Option<Fault<'a>>,
-    habits: Habits,
-    out: &mut O,
+    front: &'b Option<Front>,
+    components: Vec<Checked<'b>>,
+    served: &Served,
 ) -> Result<Linked<'b>, Fault<'a>> {
-    let components = loaded.check(alloc, unread)?;
-    if habits.json {
-        tell_open(alloc, loaded, &components, out)?;
-    } else {
-        write_open(alloc, loaded, &components, out)?;
+    match front {
+        Some(front) => loaded.link_behind(alloc, front, components, served),
+        None => loaded.link_served(alloc, components, served),
     }
-    loaded.link_checked(alloc, components)
 }
 
 /// Files, and what they link to.
@@ -97,6 +159,8 @@ fn link_with_open<'a, 'b, O: Write>(
 struct LinkedFiles<'l, 'b, 'a> {
     alloc: Global,
     loaded: &'l LoadedFiles<'a>,
+    /// What stands in front of them, as a component of the set that is not shown.
+    front: &'l Option<Front>,
     linked: &'l Linked<'b>,
     habits: Habits,
 }
@@ -119,31 +183,44 @@ impl<'a> LinkedFiles<'_, '_, 'a> {
         tell_of_file(self.alloc, name, bytes.len(), self.habits, out)
     }
 
+    /// How many components of the set are not shown.
+    fn hidden(&self) -> usize {
+        match self.front {
+            Some(_) => 1,
+            None => 0,
+        }
+    }
+
     /// The set as one file, with the exports of this component.
     fn bundle(&self, export: usize) -> Result<Vec<u8>, Fault<'a>> {
+        let front = match self.front {
+            Some(front) => front.groups(self.alloc)?,
+            None => Vec::new(self.alloc),
+        };
         let files = self.loaded.bytes(self.alloc)?;
         let names = self.loaded.part_names(self.alloc)?;
-        Ok(made(self.alloc, self.linked, &files, export, &names)?)
+        let exporter = export.saturating_add(self.hidden());
+        Ok(made(self.alloc, self.linked, &front, &files, exporter, &names)?)
     }
 
     /// Prints a graph of the links.
     fn tell_graph<O: Write>(&self, out: &mut O) -> Result<(), Fault<'static>> {
         let names = component_names(self.alloc, self.loaded)?;
         if !self.habits.json {
-            write_graph(out, &names, self.linked)?;
+            write_graph(out, &names, self.linked, self.hidden())?;
             return Ok(());
         }
         let mut graph = Vec::new(self.alloc);
-        write_graph(&mut graph, &names, self.linked)?;
+        write_graph(&mut graph, &names, self.linked, self.hidden())?;
         tell_bytes(self.alloc, "mermaid", &graph, out)
     }
 
     /// Prints which export serves each import.
     fn tell_links<O: Write>(&self, out: &mut O) -> Result<(), Fault<'static>> {
         if self.habits.json {
-            return tell_plan(self.alloc, self.linked, out);
+            return tell_plan(self.alloc, self.linked, self.hidden(), out);
         }
-        write_plan(out, self.linked)?;
+        write_plan(out, self.linked, self.hidden())?;
         Ok(())
     }
 }
@@ -173,17 +250,42 @@ fn tell_of_file<O: Write>(
     Ok(())
 }
 
-fn write_open<O: Write>(
+/// Writes which export serves each import of a linked set, behind so many components that are not
+/// shown, a line each.
+fn write_plan<O: Write>(out: &mut O, linked: &Linked<'_>, hidden: usize) -> io::Result<()> {
+    for at in 0..linked.plan().len() {
+        if let Some(line) = shown_line(linked, hidden, at) {
+            let ShownLine {
+                importer,
+                import,
+                provider,
+                export,
+            } = line;
+            writeln!(out, "{importer} {import} <- {provider} {export}")?;
+        }
+    }
+    out.flush()
+}
+
+/// Prints the imports that nothing serves.
+fn tell_or_write_open<O: Write>(
     alloc: Global,
-    loaded: &LoadedFiles<'_>,
-    components: &[Checked<'_>],
+    imports: &[OpenImport<'_>],
+    habits: Habits,
     out: &mut O,
 ) -> Result<(), Fault<'static>> {
-    for open in open_imports(alloc, components, loaded.groups())? {
+    if habits.json {
+        return tell_open(alloc, imports, out);
+    }
+    write_open(imports, out)?;
+    Ok(())
+}
+
+fn write_open<O: Write>(imports: &[OpenImport<'_>], out: &mut O) -> io::Result<()> {
+    for open in imports {
         writeln!(out, "{} {} is open", open.component, open.name)?;
     }
-    out.flush()?;
-    Ok(())
+    out.flush()
 }
 
 /// Writes the files of a bundle into a folder, and prints what each is given.

@@ -1,8 +1,7 @@
 //! What commands do, told as objects.
 
 use cm_hux_play::files::{
-    Asked, Bundle, Checked, Fault, Linked, LoadedFiles, Object, Value, fault_object, open_imports,
-    tell,
+    Asked, Bundle, Fault, Linked, Object, OpenImport, Value, fault_object, part_of, tell,
 };
 use std::alloc::{AllocError, Global};
 use std::io::Write;
@@ -79,33 +78,59 @@ fn export_name<'l>(linked: &'l Linked<'_>, component: usize, export: usize) -> O
     Some(export.name.as_str())
 }
 
-/// Tells which export serves each import of a linked set.
+/// A line of the plan of a linked set.
+#[derive(Clone, Copy)]
+pub(crate) struct ShownLine<'l> {
+    pub(crate) importer: usize,
+    pub(crate) import: &'l str,
+    pub(crate) provider: usize,
+    pub(crate) export: &'l str,
+}
+
+/// The line of the plan at a place, counted behind so many components that are not shown; nothing
+/// where one of them serves the import.
+pub(crate) fn shown_line<'l>(
+    linked: &'l Linked<'_>,
+    hidden: usize,
+    at: usize,
+) -> Option<ShownLine<'l>> {
+    let line = linked.plan().get(at)?;
+    Some(ShownLine {
+        importer: line.importer.checked_sub(hidden)?,
+        import: import_name(linked, line.importer, line.import)?,
+        provider: line.provider.checked_sub(hidden)?,
+        export: export_name(linked, line.provider, line.export)?,
+    })
+}
+
+/// Tells which export serves each import of a linked set, behind so many components that are not
+/// shown.
 pub(crate) fn tell_plan<O: Write>(
     alloc: Global,
     linked: &Linked<'_>,
+    hidden: usize,
     out: &mut O,
 ) -> Result<(), Fault<'static>> {
-    for line in linked.plan() {
-        let import = import_name(linked, line.importer, line.import);
-        let export = export_name(linked, line.provider, line.export);
-        if let (Some(import), Some(export)) = (import, export) {
-            let served = Some((line.provider, export));
-            let object = import_object(alloc, (line.importer, import), served)?;
-            tell(object, out)?;
+    for at in 0..linked.plan().len() {
+        if let Some(line) = shown_line(linked, hidden, at) {
+            let served = Some((line.provider, line.export));
+            tell(
+                import_object(alloc, (line.importer, line.import), served)?,
+                out,
+            )?;
         }
     }
     out.flush()?;
     Ok(())
 }
 
-/// Tells each import of files that no component before exports.
+/// Tells these imports of files that nothing serves.
 pub(crate) fn tell_open<O: Write>(
     alloc: Global,
-    loaded: &LoadedFiles<'_>,
-    components: &[Checked<'_>],
+    imports: &[OpenImport<'_>],
     out: &mut O,
 ) -> Result<(), Fault<'static>> {
-    for open in open_imports(alloc, components, loaded.groups())? {
+    for open in imports {
         tell(
             import_object(alloc, (open.component, open.name), None)?,
             out,
@@ -123,7 +148,10 @@ pub(crate) fn tell_arguments<O: Write>(
 ) -> Result<(), Fault<'static>> {
     for (number, part) in bundle.parts.iter().enumerate() {
         for argument in &part.arguments {
-            let served = Some((argument.export.part, argument.export.name));
+            let served = match part_of(bundle, argument.export) {
+                Some(part) => Some((part, argument.export.name)),
+                None => None,
+            };
             tell(import_object(alloc, (number, argument.name), served)?, out)?;
         }
     }

@@ -1,10 +1,9 @@
 //! Writing components that stand in for a host.
 
 use crate::objects::tell_written;
-use cm_binary::encode;
 use cm_binary_model::Component;
 use cm_hux_play::files::{
-    Ending, Escaped, Fault, Files, LoadedFiles, Streams, caller, load_files, provider_for,
+    Ending, Escaped, Fault, Files, LoadedFiles, Streams, caller, encode, load_files, provider_for,
     refuse_to_overwrite, signature, write_file,
 };
 use cm_hux_words::{Habits, StubWords};
@@ -48,13 +47,16 @@ fn stub_bytes<'a, F: Files>(
     Ok(encode(alloc, &stub)?)
 }
 
-/// A component that exports what the first of these files imports. A bundle among other files is
-/// refused: what its parts are given is not seen here.
+/// A component that exports what these files import, or an open bundle does. A bundle among other
+/// files is refused: what its parts are given is not seen here.
 fn provider<'a>(alloc: Global, loaded: LoadedFiles<'a>) -> Result<Component, Fault<'a>> {
     if let Some(group) = loaded.groups().first() {
         let name = Escaped(group.name);
         let text = format!(in alloc; "{name}: it is a bundle: name the files that it is made of")?;
         return Err(Fault::Refused(text));
+    }
+    if let Some(stub) = loaded.open_provider(alloc)? {
+        return Ok(stub);
     }
     let components = loaded.into_components(alloc)?;
     Ok(provider_for(alloc, &components)?)

@@ -4,33 +4,29 @@ use crate::fault::Fault;
 use crate::loading::Loaded;
 use crate::providers::Provider;
 use crate::serve_words::{FileName, component_name};
-use cm_match_model::{Candidate, LinkFault};
+use cm_match_model::Candidate;
 use cm_tool_help_texts::Escaped;
+use cm_types::ExternName;
 use std::alloc::{AllocError, Global};
 
 /// What stands behind the tail of a `TwoProviders`: the words that choose the last component before
-/// that has an export for the import. The names are those of the files; what has none is not seen.
+/// this one that has an export for the import. The names are those of the files; what has none is
+/// not seen.
 pub(crate) fn choosing_text<'a, 'n>(
     alloc: Global,
     files: &[Loaded<'a>],
     names: &[FileName<'n>],
-    fault: LinkFault,
+    first: usize,
+    import: &ExternName,
 ) -> Result<String, Fault<'a>> {
-    let Some(file) = files.get(fault.component) else {
-        return Ok(String::new(alloc));
-    };
-    let importer = file.check(alloc)?;
-    let Some(import) = importer.imports().get(fault.import) else {
-        return Ok(String::new(alloc));
-    };
-    for (number, file) in files.iter().enumerate().take(fault.component).rev() {
+    for (number, file) in files.iter().enumerate().take(first).rev() {
         let name = file_of(names, number);
         let checked = file.check(alloc)?;
         let provider = Provider::new(alloc, number, checked.exports())?;
-        let candidate = provider.fitting(alloc, &import.name)?;
+        let candidate = provider.fitting(alloc, import)?;
         if candidate != Candidate::None && !name.is_empty() {
             let called = called_as(alloc, names, number, name)?;
-            return Ok(words(alloc, import.name.as_str(), called.as_str(), candidate)?);
+            return Ok(words(alloc, import.as_str(), called.as_str(), candidate)?);
         }
     }
     Ok(String::new(alloc))

@@ -1,10 +1,11 @@
 //! Bundles among the files of a command.
 
 use crate::fault::Fault;
-use cm_match::Linked;
-use cm_match_model::{Choices, Link, Place, PlanLine};
+use crate::taking::{Arguments, Given};
+use cm_match_model::{Choices, Place};
 use cm_tool_commands::Fault as ToolFault;
 use cm_tool_help_texts::Escaped;
+use cm_types::ExternName;
 use std::alloc::{AllocError, Global};
 
 /// A bundle among other files. Its parts are components of the set, linked as its arguments say,
@@ -17,16 +18,8 @@ pub struct Group<'a> {
     pub bytes: Vec<u8>,
     /// The number of its first part in the set, from 0.
     pub first: usize,
-    pub(crate) inside: Inside,
-}
-
-/// What is inside a bundle.
-#[derive(Drop)]
-pub(crate) struct Inside {
-    /// The number of the part whose exports the bundle has, from 0.
-    pub(crate) exporter: usize,
-    /// The links of its parts, by part and import, between components of the set.
-    pub(crate) links: Vec<Vec<Option<Link>>>,
+    /// How its parts are linked.
+    pub(crate) inside: Arguments,
 }
 
 impl Group<'_> {
@@ -35,11 +28,20 @@ impl Group<'_> {
         self.first.saturating_add(self.inside.exporter)
     }
 
-    /// The links of the component of this number, if it is a part.
-    pub(crate) fn links_of(&self, component: usize) -> Option<&Vec<Option<Link>>> {
+    /// What the imports of the component of this number are given, if it is a part.
+    pub(crate) fn given_to(&self, component: usize) -> Option<&[Given]> {
         match component.checked_sub(self.first) {
-            Some(part) => self.inside.links.get(part),
+            Some(part) => Some(self.inside.given.get(part)?.as_slice()),
             None => None,
+        }
+    }
+
+    /// The name of the bundle's import that is given to an import of the component of this number,
+    /// if one is.
+    pub(crate) fn open_name(&self, component: usize, import: usize) -> Option<&ExternName> {
+        match self.given_to(component)?.get(import)? {
+            Given::Open(name) => Some(name),
+            Given::Part { .. } => None,
         }
     }
 }
@@ -47,7 +49,7 @@ impl Group<'_> {
 /// The bundle among these of which the component of this number is a part.
 pub(crate) fn group_of<'g, 'a>(groups: &'g [Group<'a>], component: usize) -> Option<&'g Group<'a>> {
     for group in groups {
-        if group.links_of(component).is_some() {
+        if group.given_to(component).is_some() {
             return Some(group);
         }
     }
@@ -77,50 +79,19 @@ pub(crate) fn add_places(
     Ok(())
 }
 
+/// The place of a file of its own.
+pub(crate) const OWN_PLACE: Place = Place {
+    begins: true,
+    is_seen: true,
+};
+
 fn place_of(groups: &[Group<'_>], component: usize) -> Place {
     match group_of(groups, component) {
         Some(group) => Place {
             begins: group.first == component,
             is_seen: group.exporter() == component,
         },
-        None => Place {
-            begins: true,
-            is_seen: true,
-        },
-    }
-}
-
-/// The links of a set, by component and import, as they are in a larger one, in which its first
-/// component has this number.
-pub(crate) fn links_behind(
-    alloc: Global,
-    linked: &Linked<'_>,
-    first: usize,
-) -> Result<Vec<Vec<Option<Link>>>, AllocError> {
-    let mut links = empty_rows(alloc, linked.components().len())?;
-    for line in linked.plan() {
-        if let Some(row) = links.get_mut(line.importer) {
-            row.push(link_behind(line, first))?;
-        }
-    }
-    Ok(links)
-}
-
-fn empty_rows(alloc: Global, count: usize) -> Result<Vec<Vec<Option<Link>>>, AllocError> {
-    let mut rows = Vec::with_capacity(alloc, count)?;
-    for _ in 0..count {
-        rows.push(Vec::new(alloc))?;
-    }
-    Ok(rows)
-}
-
-fn link_behind(line: &PlanLine, first: usize) -> Option<Link> {
-    match u32::try_from(line.provider.saturating_add(first)) {
-        Ok(component) => Some(Link {
-            component,
-            export: line.export,
-        }),
-        Err(_) => None,
+        None => OWN_PLACE,
     }
 }
 

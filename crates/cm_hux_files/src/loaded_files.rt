@@ -2,14 +2,16 @@
 
 use crate::choosing::choosing_text;
 use crate::fault::Fault;
-use crate::groups::{Group, Inside, add_places, fault_inside, group_of, is_seen, links_behind};
+use crate::fronts::stub_of;
+use crate::groups::{Group, add_places, fault_inside, group_of, is_seen};
 use crate::loading::{Loaded, kept, load_bytes, load_part, of_file, read_bytes};
 use crate::part_words::part_words;
 use crate::serve_words::{FileName, refuse_words};
-use crate::serving::choices_of;
-use crate::taking::{Arguments, arguments_of, bundle_in, is_bundle, read_bundle};
+use crate::served::Served;
+use crate::serving::served_by;
+use crate::taking::{Arguments, arguments_of, bundle_in, is_bundle, part_of, read_bundle};
 use cm_binary_model::Component;
-use cm_bundle::{PartName, part_names};
+use cm_bundle::{Bundle, PartName, part_names};
 use cm_hux_words::ServeWords;
 use cm_match::link_by;
 use cm_match_model::{Choices, LinkReason};
@@ -56,7 +58,7 @@ pub fn check_file<'a, F: Files>(
 
 fn check_bundle<'a>(alloc: Global, name: &'a str, bytes: Vec<u8>) -> Result<(), Fault<'a>> {
     match LoadedFiles::of_bundle(alloc, name, bytes) {
-        Ok(loaded) => match loaded.inside(alloc, 0) {
+        Ok(loaded) => match loaded.inside(alloc) {
             Ok(_) => Ok(()),
             Err(fault) => Err(fault_inside(alloc, name, fault)),
         },
@@ -151,7 +153,7 @@ impl<'a> LoadedFiles<'a> {
         bytes: Vec<u8>,
     ) -> Result<(), Fault<'a>> {
         match LoadedFiles::of_bundle(alloc, name, bytes) {
-            Ok(alone) => match alone.inside(alloc, self.loaded.len()) {
+            Ok(alone) => match alone.inside(alloc) {
                 Ok(inside) => Ok(self.add_parts(alone, inside)?),
                 Err(fault) => Err(fault_inside(alloc, name, fault)),
             },
@@ -159,23 +161,26 @@ impl<'a> LoadedFiles<'a> {
         }
     }
 
-    /// What is inside the bundle whose parts these are, where its first part has this number in
-    /// another set.
-    pub(crate) fn inside(&self, alloc: Global, first: usize) -> Result<Inside, Fault<'a>> {
+    /// How the parts of the bundle are linked that these are: so they have to link, behind a
+    /// component that exports what it imports, where it is open.
+    pub(crate) fn inside(&self, alloc: Global) -> Result<Arguments, Fault<'a>> {
         let components = self.check(alloc, None)?;
-        let exporter = match &self.bundle {
-            Some((name, bytes)) => self.arguments(alloc, name, bytes, &components)?.exporter,
-            None => 0,
+        let Some((name, bytes)) = &self.bundle else {
+            return Err(Fault::Memory);
         };
-        let linked = self.link_checked(alloc, components)?;
-        Ok(Inside {
-            exporter,
-            links: links_behind(alloc, &linked, first)?,
-        })
+        let bundle = read_bundle(alloc, name, bytes)?;
+        let arguments = self.arguments(alloc, name, &bundle, &components)?;
+        if bundle.front.is_empty() {
+            self.link_served(alloc, components, &arguments.served(alloc)?)?;
+        } else {
+            let stub = stub_of(alloc, name, &bundle.front)?;
+            self.link_inside(alloc, &stub, components, &arguments)?;
+        }
+        Ok(arguments)
     }
 
-    /// Adds the parts of a bundle, inside of which it is so.
-    fn add_parts(&mut self, alone: LoadedFiles<'a>, inside: Inside) -> Result<(), AllocError> {
+    /// Adds the parts of a bundle, which are linked so.
+    fn add_parts(&mut self, alone: LoadedFiles<'a>, inside: Arguments) -> Result<(), AllocError> {
         let LoadedFiles { loaded, bundle, .. } = alone;
         let first = self.loaded.len();
         self.count = self.count.saturating_add(loaded.len()).saturating_sub(1);
@@ -221,7 +226,7 @@ impl<'a> LoadedFiles<'a> {
         };
         self.count = bundle.parts.len();
         if let Some(supply) = bundle.exports.first() {
-            self.exporter = Some(supply.export.part);
+            self.exporter = part_of(&bundle, supply.export);
         }
         let words = part_words(alloc, name, &bundle)?;
         for (part, word) in bundle.parts.iter().zip(words) {
@@ -335,32 +340,44 @@ impl<'a> LoadedFiles<'a> {
         self.link_checked(alloc, self.check(alloc, unread)?)
     }
 
-    /// What is chosen of the links of the components: by a bundle, or by words. `Refused` comes
-    /// where there is a word for the files of a bundle.
-    pub fn choices(&self, alloc: Global, components: &[Checked<'_>]) -> Result<Choices, Fault<'a>> {
-        if let Some((name, bytes)) = &self.bundle {
-            refuse_words(alloc, &self.serve.words)?;
-            let mut choices = Choices::none(alloc);
-            choices.links = self.arguments(alloc, name, bytes, components)?.links;
-            return Ok(choices);
-        }
-        let names = self.names(alloc)?;
-        let mut choices = choices_of(alloc, &names, components, &self.groups, &self.serve)?;
-        add_places(&mut choices, &self.groups, components.len())?;
-        Ok(choices)
+    /// What serves the imports of the components: by a bundle, or by words. `Refused` comes where
+    /// there is a word for the files of a bundle.
+    pub fn served(&self, alloc: Global, components: &[Checked<'_>]) -> Result<Served, Fault<'a>> {
+        let Some((name, bytes)) = &self.bundle else {
+            let names = self.names(alloc)?;
+            let served = served_by(alloc, &names, components, &self.groups, &self.serve)?;
+            return Ok(served);
+        };
+        refuse_words(alloc, &self.serve.words)?;
+        let bundle = read_bundle(alloc, name, bytes)?;
+        let arguments = self.arguments(alloc, name, &bundle, components)?;
+        Ok(arguments.served(alloc)?)
     }
 
-    /// How the parts of the bundle of this name, whose bytes these are, are linked.
+    /// How the parts of the bundle of this name are linked.
     fn arguments(
         &self,
         alloc: Global,
         name: &'a str,
-        bytes: &[u8],
+        bundle: &Bundle<'_>,
         components: &[Checked<'_>],
     ) -> Result<Arguments, Fault<'a>> {
-        let bundle = read_bundle(alloc, name, bytes)?;
         let loaded = self.loaded.as_slice();
-        Ok(arguments_of(alloc, name, &bundle, loaded, components)?)
+        Ok(arguments_of(alloc, name, bundle, loaded, components)?)
+    }
+
+    /// What is chosen of the links of the components, as `served` has it.
+    pub fn choices(&self, alloc: Global, components: &[Checked<'_>]) -> Result<Choices, Fault<'a>> {
+        let served = self.served(alloc, components)?;
+        Ok(self.choices_by(alloc, &served)?)
+    }
+
+    /// The choices by which these exports serve the imports of the components.
+    fn choices_by(&self, alloc: Global, served: &Served) -> Result<Choices, AllocError> {
+        let mut choices = Choices::none(alloc);
+        choices.links = served.links(alloc)?;
+        add_places(&mut choices, &self.groups, self.loaded.len())?;
+        Ok(choices)
     }
 
     /// What names the components, in order. A bundle among other files names the part whose exports
@@ -390,42 +407,90 @@ impl<'a> LoadedFiles<'a> {
         alloc: Global,
         components: Vec<Checked<'b>>,
     ) -> Result<Linked<'b>, Fault<'a>> {
-        let choices = self.choices(alloc, &components)?;
+        let served = self.served(alloc, &components)?;
+        self.link_served(alloc, components, &served)
+    }
+
+    /// The linked set of the components, whose imports these exports serve.
+    pub fn link_served<'b>(
+        &self,
+        alloc: Global,
+        components: Vec<Checked<'b>>,
+        served: &Served,
+    ) -> Result<Linked<'b>, Fault<'a>> {
+        let choices = self.choices_by(alloc, served)?;
         match link_by(alloc, components, choices) {
             Ok(linked) => Ok(linked),
-            Err(fault) => Err(Fault::Tool(ToolFault::Link {
-                fault,
-                count: self.count,
-                tail: kept(alloc, self.tail_of(alloc, fault)),
-            })),
+            Err(fault) => Err(self.not_linked(alloc, fault)),
         }
+    }
+
+    /// The fault of components that do not link.
+    pub(crate) fn not_linked(&self, alloc: Global, fault: LinkFault) -> Fault<'a> {
+        Fault::Tool(ToolFault::Link {
+            fault,
+            count: self.count,
+            tail: kept(alloc, self.tail_of(alloc, fault)),
+        })
     }
 
     /// What the components have where they do not link, in words.
     fn tail_of(&self, alloc: Global, fault: LinkFault) -> Result<String, Fault<'a>> {
         let mut files = Vec::with_capacity(alloc, self.loaded.len())?;
         for (number, file) in self.loaded.iter().enumerate() {
-            files.push((file.word(), self.seen_of(alloc, number, file)?))?;
+            files.push((
+                file.word(),
+                self.seen_of(alloc, number, file, fault.component)?,
+            ))?;
         }
         let mut tail = link_help(alloc, &files, fault)?;
         if fault.reason == LinkReason::TwoProviders {
-            let names = self.names(alloc)?;
-            tail.push_str(choosing_text(alloc, &self.loaded, &names, fault)?.as_str())?;
+            tail.push_str(self.choosing(alloc, fault)?.as_str())?;
         }
         Ok(tail)
     }
 
-    /// What others see of the component of this number, which is that of a file.
+    /// What an importer sees of the component of this number, which is that of a file.
     fn seen_of(
         &self,
         alloc: Global,
         number: usize,
         file: &Loaded<'a>,
+        importer: usize,
     ) -> Result<Signature, Fault<'a>> {
-        if !is_seen(&self.groups, number) {
+        if number != importer && self.is_hidden(number, importer) {
             return nothing(alloc);
         }
         Ok(signature(alloc, file.check(alloc)?)?)
+    }
+
+    /// Whether another component is hidden from an importer: it is no exporter of a bundle, or they
+    /// are parts of one.
+    fn is_hidden(&self, number: usize, importer: usize) -> bool {
+        match group_of(&self.groups, importer) {
+            Some(group) if group.given_to(number).is_some() => true,
+            _ => !is_seen(&self.groups, number),
+        }
+    }
+
+    /// The words that choose what serves the import of a fault.
+    fn choosing(&self, alloc: Global, fault: LinkFault) -> Result<String, Fault<'a>> {
+        let names = self.names(alloc)?;
+        let importer = fault.component;
+        if let Some(group) = group_of(&self.groups, importer) {
+            return match group.open_name(importer, fault.import) {
+                Some(import) => { choosing_text(alloc, &self.loaded, &names, group.first, import) }
+                None => Ok(String::new(alloc)),
+            };
+        }
+        let Some(file) = self.loaded.get(importer) else {
+            return Ok(String::new(alloc));
+        };
+        let checked = file.check(alloc)?;
+        match checked.imports().get(fault.import) {
+            Some(import) => choosing_text(alloc, &self.loaded, &names, importer, &import.name),
+            None => Ok(String::new(alloc)),
+        }
     }
 }
 

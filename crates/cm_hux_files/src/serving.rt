@@ -2,31 +2,33 @@
 
 use crate::fault::Fault;
 use crate::groups::{Group, group_of};
-use crate::providers::{Provider, link_to, seen_providers};
+use crate::providers::{Provider, seen_providers};
 use crate::serve_words::{FileName, ServeWord, no_word, read_word, serves_nothing};
+use crate::served::Served;
+use crate::taking::Given;
 use cm_hux_words::ServeWords;
-use cm_match_model::{Candidate, Choices, Link};
+use cm_match_model::Candidate;
 use cm_match_serving::Checked;
 use cm_types::ExternName;
+use cm_types_arena::Extern;
 use std::alloc::{AllocError, Global};
 
-/// What is chosen of the links of these components, whose files have these names, by the words of
-/// a command.
+/// What serves the imports of these components, whose files have these names, by the words of a
+/// command.
 ///
 /// A word `IMPORT=PROVIDER` is of each import of this name behind the provider; of several such
 /// words the one of the last provider before the import. A word `IMPORTER/IMPORT=PROVIDER` comes
-/// before these. Without a word an import is linked where one component alone before it has an
-/// export for it. The parts of a bundle among the files are linked as it says. `Usage` comes where
-/// a word names nothing, or two are of one import of one importer, and `Refused` where one serves
-/// nothing.
-pub(crate) fn choices_of(
+/// before these. Without a word an import is served where one component alone before it has an
+/// export for it. The parts of a bundle among the files are linked as it says; what it imports is
+/// served as the import of a file in its place. `Usage` comes where a word names nothing, or two
+/// are of one import of one importer, and `Refused` where one serves nothing.
+pub(crate) fn served_by(
     alloc: Global,
     files: &[FileName<'_>],
     components: &[Checked<'_>],
     groups: &[Group<'_>],
     serve: &ServeWords<'_>,
-) -> Result<Choices, Fault<'static>> {
-    let mut choices = Choices::none(alloc);
+) -> Result<Served, Fault<'static>> {
     let providers = seen_providers(alloc, components, groups)?;
     let mut words = Vec::with_capacity(alloc, serve.words.len())?;
     for word in &serve.words {
@@ -39,26 +41,48 @@ pub(crate) fn choices_of(
         used: Vec::from_elem(alloc, false, words.len())?,
         nearest: serve.nearest,
     };
-    for (number, component) in components.iter().enumerate() {
-        let row = match row_inside(groups, number) {
-            Some(row) => row.to_vec(alloc)?,
-            None => chooser.row(number, component)?,
-        };
-        choices.links.push(row)?;
-    }
+    let rows = chooser.rows(components, groups)?;
     chooser.refuse_unused()?;
-    Ok(choices)
+    Ok(Served { rows })
 }
 
-/// The links of a component, if it is a part of a bundle among the files.
-fn row_inside<'g>(groups: &'g [Group<'_>], component: usize) -> Option<&'g Vec<Option<Link>>> {
-    match group_of(groups, component) {
-        Some(group) => group.links_of(component),
-        None => None,
+/// Whose imports are served.
+#[derive(Clone, Copy)]
+struct Importer {
+    /// The number of the component.
+    component: usize,
+    /// The number by which words name it: its own, or that of its bundle's exporter.
+    named: usize,
+    /// The first component that does not stand before it, or before its bundle.
+    first: usize,
+}
+
+impl Importer {
+    /// A component that is no part of a bundle.
+    fn file(component: usize) -> Importer {
+        Importer {
+            component,
+            named: component,
+            first: component,
+        }
+    }
+
+    /// A component that is a part of a bundle.
+    fn part(component: usize, group: &Group<'_>) -> Importer {
+        Importer {
+            component,
+            named: group.exporter(),
+            first: group.first,
+        }
+    }
+
+    /// Whether a word names it by this number.
+    fn is(self, number: usize) -> bool {
+        number == self.component || number == self.named
     }
 }
 
-/// What chooses the links of imports.
+/// What chooses what serves imports.
 #[derive(Drop)]
 struct Chooser<'c, 'a> {
     alloc: Global,
@@ -70,35 +94,72 @@ struct Chooser<'c, 'a> {
 }
 
 impl Chooser<'_, '_> {
-    /// The links of the imports of a component.
+    /// What serves the imports of these components.
+    fn rows(
+        &mut self,
+        components: &[Checked<'_>],
+        groups: &[Group<'_>],
+    ) -> Result<Vec<Vec<Candidate>>, Fault<'static>> {
+        let mut rows = Vec::with_capacity(self.alloc, components.len())?;
+        for (number, component) in components.iter().enumerate() {
+            rows.push(match group_of(groups, number) {
+                Some(group) => self.row_inside(number, group)?,
+                None => self.row(number, component.imports())?,
+            })?;
+        }
+        Ok(rows)
+    }
+
+    /// What serves the imports of a component that is no part of a bundle.
     fn row(
         &mut self,
-        importer: usize,
-        component: &Checked<'_>,
-    ) -> Result<Vec<Option<Link>>, Fault<'static>> {
-        let imports = component.imports();
+        component: usize,
+        imports: &[Extern],
+    ) -> Result<Vec<Candidate>, Fault<'static>> {
+        let importer = Importer::file(component);
         let mut row = Vec::with_capacity(self.alloc, imports.len())?;
         for import in imports {
-            row.push(self.link(importer, &import.name)?)?;
+            row.push(self.served(importer, &import.name)?)?;
         }
         Ok(row)
     }
 
-    /// The link of an import: by the word that is of it, or the nearest, or the only one.
-    fn link(
+    /// What serves the imports of a part of a bundle: as it says, and before it what it imports.
+    fn row_inside(
         &mut self,
-        importer: usize,
+        component: usize,
+        group: &Group<'_>,
+    ) -> Result<Vec<Candidate>, Fault<'static>> {
+        let importer = Importer::part(component, group);
+        let given = group.given_to(component).unwrap_or(&[]);
+        let mut row = Vec::with_capacity(self.alloc, given.len())?;
+        for given in given {
+            row.push(match given {
+                Given::Part { part, export } => Candidate::One {
+                    component: part.saturating_add(group.first),
+                    export: *export,
+                },
+                Given::Open(name) => self.served(importer, name)?,
+            })?;
+        }
+        Ok(row)
+    }
+
+    /// What serves an import: by the word that is of it, or the nearest, or the only one.
+    fn served(
+        &mut self,
+        importer: Importer,
         import: &ExternName,
-    ) -> Result<Option<Link>, Fault<'static>> {
+    ) -> Result<Candidate, Fault<'static>> {
         match self.word_of(importer, import.as_str())? {
-            Some(number) => self.link_by(number, importer, import),
-            None if self.nearest => Ok(self.nearest(importer, import)?),
-            None => Ok(self.only(importer, import)?),
+            Some(number) => self.served_by(number, importer, import),
+            None if self.nearest => Ok(self.nearest(importer.first, import)?),
+            None => Ok(self.only(importer.first, import)?),
         }
     }
 
     /// The number of the word that is of an import.
-    fn word_of(&self, importer: usize, import: &str) -> Result<Option<usize>, Fault<'static>> {
+    fn word_of(&self, importer: Importer, import: &str) -> Result<Option<usize>, Fault<'static>> {
         let mut own = None;
         let mut found: Option<(usize, usize)> = None;
         for (number, word) in self.words.iter().enumerate() {
@@ -106,38 +167,40 @@ impl Chooser<'_, '_> {
                 continue;
             }
             match word.importer {
-                Some(named) if named == importer && own.is_some() => {
+                Some(named) if importer.is(named) && own.is_some() => {
                     let why = "another word is of this import already";
                     return Err(no_word(self.alloc, word.word, why));
                 }
-                Some(named) if named == importer => own = Some(number),
+                Some(named) if importer.is(named) => own = Some(number),
                 Some(_) => {}
-                None => found = later(found, number, word.provider, importer),
+                None => found = later(found, number, word.provider, importer.first),
             }
         }
         Ok(own.or(found.map(|(number, _)| number)))
     }
 
-    /// The link of an import by the word of a number.
-    fn link_by(
+    /// What serves an import by the word of a number.
+    fn served_by(
         &mut self,
         number: usize,
-        importer: usize,
+        importer: Importer,
         import: &ExternName,
-    ) -> Result<Option<Link>, Fault<'static>> {
+    ) -> Result<Candidate, Fault<'static>> {
         let Some(word) = self.words.get(number).copied() else {
-            return Ok(None);
+            return Ok(Candidate::None);
         };
-        if word.provider >= importer {
+        if word.provider >= importer.first {
             let why = "its provider does not stand before the importer";
             return Err(serves_nothing(self.alloc, word.word, why));
         }
         if let Some(used) = self.used.get_mut(number) {
             *used = true;
         }
-        match link_to(self.candidate(&word, import)?) {
-            Some(link) => Ok(Some(link)),
-            None => Err(serves_nothing(self.alloc, word.word, why_no_export(&word))),
+        match self.candidate(&word, import)? {
+            Candidate::None | Candidate::Several => {
+                Err(serves_nothing(self.alloc, word.word, why_no_export(&word)))
+            }
+            one => Ok(one),
         }
     }
 
@@ -156,31 +219,31 @@ impl Chooser<'_, '_> {
         }
     }
 
-    /// The link to the last component before an import that has an export for it.
-    fn nearest(&self, importer: usize, import: &ExternName) -> Result<Option<Link>, AllocError> {
-        for provider in self.providers.iter().take(importer).rev() {
+    /// The export for an import of the last component before this one that has any.
+    fn nearest(&self, first: usize, import: &ExternName) -> Result<Candidate, AllocError> {
+        for provider in self.providers.iter().take(first).rev() {
             let candidate = provider.fitting(self.alloc, import)?;
             if candidate != Candidate::None {
-                return Ok(link_to(candidate));
+                return Ok(candidate);
             }
         }
-        Ok(None)
+        Ok(Candidate::None)
     }
 
-    /// The link to the component before an import that alone has an export for it.
-    fn only(&self, importer: usize, import: &ExternName) -> Result<Option<Link>, AllocError> {
+    /// The export for an import of the component before this one that alone has any.
+    fn only(&self, first: usize, import: &ExternName) -> Result<Candidate, AllocError> {
         let mut found = Candidate::None;
-        for provider in self.providers.iter().take(importer) {
+        for provider in self.providers.iter().take(first) {
             let candidate = provider.fitting(self.alloc, import)?;
             if candidate == Candidate::None {
                 continue;
             }
             if found != Candidate::None {
-                return Ok(None);
+                return Ok(Candidate::Several);
             }
             found = candidate;
         }
-        Ok(link_to(found))
+        Ok(found)
     }
 
     /// Refuses a word that serves nothing.

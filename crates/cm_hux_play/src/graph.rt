@@ -10,9 +10,14 @@ const MAX_LABEL: usize = 1000;
 
 /// Writes linked components as a Mermaid graph: a node for each, by number and name, and an edge
 /// from each to those from which it imports, with the imports' names, of which no more are written
-/// once they have `MAX_LABEL` bytes. The names of the components are given in order. An error is
-/// the writer's.
-pub fn write_graph<O: Write>(out: &mut O, names: &[&str], linked: &Linked<'_>) -> io::Result<()> {
+/// once they have `MAX_LABEL` bytes. The names of the components are given in order, behind as many
+/// that have none and are not shown. An error is the writer's.
+pub fn write_graph<O: Write>(
+    out: &mut O,
+    names: &[&str],
+    linked: &Linked<'_>,
+    hidden: usize,
+) -> io::Result<()> {
     out.write_all(b"graph LR\n")?;
     for (number, name) in names.iter().enumerate() {
         let name = Charted(name);
@@ -20,25 +25,30 @@ pub fn write_graph<O: Write>(out: &mut O, names: &[&str], linked: &Linked<'_>) -
     }
     for importer in 0..names.len() {
         for provider in 0..names.len() {
-            write_edge(out, linked, importer, provider)?;
+            write_edge(out, linked, hidden, importer, provider)?;
         }
     }
     out.flush()
 }
 
-/// Writes the edge of a pair of components, if one imports from the other.
+/// Writes the edge of a pair of components behind so many, if one imports from the other.
 fn write_edge<O: Write>(
     out: &mut O,
     linked: &Linked<'_>,
+    hidden: usize,
     importer: usize,
     provider: usize,
 ) -> io::Result<()> {
+    let pair = (
+        importer.saturating_add(hidden),
+        provider.saturating_add(hidden),
+    );
     let mut bytes = 0usize;
     for line in linked.plan() {
-        if line.importer != importer || line.provider != provider || bytes > MAX_LABEL {
+        if (line.importer, line.provider) != pair || bytes > MAX_LABEL {
             continue;
         }
-        let name = import_name(linked, importer, line.import);
+        let name = import_name(linked, line.importer, line.import);
         if bytes == 0 {
             write!(out, "    c{importer} -->|\"")?;
         } else {

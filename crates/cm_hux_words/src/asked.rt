@@ -18,7 +18,7 @@ pub struct ServeWords<'a> {
     pub nearest: bool,
 }
 
-/// `link FILE.. [-o OUT [--export I]] [--mermaid]`
+/// `link FILE.. [-o OUT [--export I]] [--open] [--mermaid]`
 #[derive(Drop)]
 pub struct LinkWords<'a> {
     pub files: Vec<&'a str>,
@@ -26,6 +26,8 @@ pub struct LinkWords<'a> {
     pub out: Option<&'a str>,
     /// The number of the component whose exports that file has.
     pub export: Option<&'a str>,
+    /// Whether imports that nothing serves are left open.
+    pub open: bool,
     /// Whether a graph is printed.
     pub mermaid: bool,
     pub serve: ServeWords<'a>,

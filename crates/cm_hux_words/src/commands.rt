@@ -77,6 +77,15 @@ const EXPORT: Word = Word {
     tie: Tie::With("out"),
 };
 
+const OPEN: Word = Word {
+    name: "open",
+    value: "",
+    help: "Leaves imports open that nothing serves: OUT imports them",
+    form: Form::Flag,
+    letter: None,
+    tie: Tie::Free,
+};
+
 const GRAPH: Word = Word {
     name: "mermaid",
     value: "",
@@ -346,7 +355,8 @@ prints
         about: "Links components: each imports from those before it",
         example: "With -o it writes them as one component that other runtimes read: a bundle. It has
 each file, byte for byte, and its name, and exports what the last one does, or the one that
---export counts from 0; what the others export is hidden then.
+--export counts from 0; what the others export is hidden then. Where other components want
+the same host, leave it out: with --open OUT imports what nothing serves.
 
 Where several files export what an import fits, --serve says which serves it, or
 PROVIDER/EXPORT. A file is named by its name without folder and .wasm, or by its
@@ -355,14 +365,16 @@ number from 0. A word for one IMPORTER comes before the others, and these before
 Example:
   hux link provider.wasm user.wasm -o set.wasm
 prints
-  1 inc <- 0 inc",
-        words: &[FILES, BUNDLE, EXPORT, SERVE, NEAREST, GRAPH],
+  1 inc <- 0 inc
+and with --open and user.wasm alone
+  0 inc is open",
+        words: &[FILES, BUNDLE, EXPORT, OPEN, SERVE, NEAREST, GRAPH],
     },
     Described {
         name: "unbundle",
         about: "Writes the files of a bundle into a folder",
         example: "They are named 0.wasm, 1.wasm and so on, in order. It prints which export each
-import is given.
+import is given, or that it is open.
 
 Example:
   hux unbundle set.wasm -o parts
@@ -373,8 +385,8 @@ prints
     Described {
         name: "plug",
         about: "Links providers into a component, by the imports that fit",
-        example: "It prints a line for each import that no component before exports, with which
-nothing is written; else what link prints.
+        example: "It prints a line for each import that nothing serves, which OUT imports then, and
+behind these what link prints.
 
 Example:
   hux plug --plug provider.wasm user.wasm -o set.wasm

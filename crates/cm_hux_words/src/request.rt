@@ -20,7 +20,7 @@ pub enum Request<'a> {
     Core { file: &'a str },
     /// `conform --wit W --world N FILE`
     Conform(ConformWords<'a>),
-    /// `link FILE.. [-o OUT [--export I]] [--mermaid]`
+    /// `link FILE.. [-o OUT [--export I]] [--open] [--mermaid]`
     Link(LinkWords<'a>),
     /// `unbundle FILE -o DIR`
     Unbundle { file: &'a str, folder: &'a str },
@@ -190,6 +190,7 @@ fn link<'a>(alloc: Global, found: &ArgMatches<'a>) -> Result<Request<'a>, WordsF
         files,
         out: found.get_str("out"),
         export: found.get_str("export"),
+        open: found.get_flag("open"),
         mermaid: found.get_flag("mermaid"),
         serve: serve_words(alloc, found)?,
     }))

@@ -123,6 +123,7 @@ fn write_made<'a, 'b: 'a>(
     write_file(
         alloc,
         &Bundle {
+            front: Vec::new(alloc),
             parts,
             exports,
             customs: Vec::new(alloc),
@@ -151,6 +152,7 @@ fn empty_parts<'a>(alloc: Global, count: usize, line: &mut Line) -> Bundle<'a> {
         line.push(&mut parts, part);
     }
     Bundle {
+        front: Vec::new(alloc),
         parts,
         exports: Vec::new(alloc),
         customs: Vec::new(alloc),
@@ -205,6 +207,7 @@ fn write_numbers(line: &mut Line) {
         BundleReason::Surplus,
         BundleReason::TooLong,
         BundleReason::Memory,
+        BundleReason::BadFront,
     ] {
         line.number_of_debug(&reason, reason.number());
     }

@@ -1,14 +1,19 @@
 //! Bundles in a line of words.
 
 use cm_bundle::{
-    Bundle, BundleFault, BundleReason, Part, PartExport, Sort, Supply, WriteFault, part_names,
+    Bundle, BundleFault, BundleReason, ImportGroup, Part, PartExport, Sort, Supply, WriteFault,
+    part_names,
 };
 use cm_rows::{Line, write_bytes};
 use std::alloc::Global;
 
-/// Writes `part FILE NAME=SORT:PART:EXPORT ..` for each part, `exports ..`, `custom BYTES` for each
-/// custom section, and `name PART NAME` for each name of a part.
+/// Writes `front TYPES IMPORTS ALIASES` for each group of sections in front of the parts, `part
+/// FILE NAME=SORT:PART:EXPORT ..` for each part, `exports ..`, `custom BYTES` for each custom
+/// section, and `name PART NAME` for each name of a part.
 pub fn write_bundle(alloc: Global, bundle: &Bundle<'_>, line: &mut Line) {
+    for group in &bundle.front {
+        write_group(group, line);
+    }
     for part in &bundle.parts {
         write_part(part, line);
     }
@@ -33,6 +38,16 @@ fn write_names(alloc: Global, bundle: &Bundle<'_>, line: &mut Line) {
         }
         Err(_) => line.fail_if_memory(true),
     }
+}
+
+fn write_group(group: &ImportGroup<'_>, line: &mut Line) {
+    line.put("front ");
+    write_bytes(line, group.types);
+    line.put(" ");
+    write_bytes(line, group.imports);
+    line.put(" ");
+    write_bytes(line, group.aliases);
+    line.put(" | ");
 }
 
 fn write_part(part: &Part<'_>, line: &mut Line) {
