@@ -105,7 +105,7 @@ pub(crate) const ROWS: &str = "\
     its own.\t\
     none: the form of a bundle, which is a component as Binary.md has it\n\
     bundle\tBundleReason\t9\tTooManyParts\t\
-    more than 1,000 parts\t\
+    more than 1,000 parts, or groups\t\
     The file is a component, but none that `hux link -o` or `hux plug -o` wrote, or a tool has \
     changed it.\t\
     Link at most 16 components to a bundle.\t\
@@ -127,6 +127,13 @@ pub(crate) const ROWS: &str = "\
     The process was given no more memory by the machine that it runs on.\t\
     Give it more memory, or less at a time; what was read so far may be right.\t\
     none: how memory is found\n\
+    bundle\tBundleReason\t13\tBadFront\t\
+    a section in front of the parts that is not one of imports, or of aliases of types, where it \
+    has to be\t\
+    A tool wrote the imports of an open bundle anew, or put others among them.\t\
+    Write it again by `hux link --open FILE.. -o OUT`; a component of another form is linked as a \
+    file of its own.\t\
+    none: the form of a bundle, which is a component as Binary.md has it\n\
     bundling\tBundlingFault\t0\tOtherFiles\t\
     more or fewer files than components\t\
     A host gives `bundle` the bytes of more or fewer files than the set has components.\t\
@@ -136,6 +143,12 @@ pub(crate) const ROWS: &str = "\
     no component has the number exporter\t\
     `--export` has a number that is not below that of the files.\t\
     Count components from 0, or leave `--export` out: the last one's exports are taken.\t\
+    none: how bundles are made\n\
+    bundling\tBundlingFault\t0\tOtherFront\t\
+    the front does not import what component 0 exports, in order and under the same names\t\
+    A host gives `bundle` a front that has not the names and sorts of what component 0 exports, in \
+    order.\t\
+    Make component 0 of the front: it has to export what that imports, in order.\t\
     none: how bundles are made\n\
     bundling\tBundlingFault\t0\tTooLong\t\
     the bundle would take 2^32 bytes or more\t\
