@@ -17,9 +17,9 @@ use std::alloc::{AllocError, Global};
 /// What the open bundle of this name imports, and what it exports: what this part does, whose
 /// imports are given this. The types of both stand in one arena: that of a component that has the
 /// imports of the bundle and of the part, where one is given the other under one name, and what
-/// the part exports under names of their own. `Refused` comes where an import of the bundle has such
-/// a name, and where two of them are versions of one interface that are compatible: no bundle that
-/// `hux` writes has such imports.
+/// the part exports under names of their own. `Refused` comes where an import of the bundle has
+/// such a name, and where two of them are versions of one interface that are compatible: no bundle
+/// that `hux` writes has such imports, but for a file that imports such a name.
 pub(crate) fn open_signature<'a>(
     alloc: Global,
     name: &'a str,
