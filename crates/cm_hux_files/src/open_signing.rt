@@ -17,7 +17,9 @@ use std::alloc::{AllocError, Global};
 /// What the open bundle of this name imports, and what it exports: what this part does, whose
 /// imports are given this. The types of both stand in one arena: that of a component that has the
 /// imports of the bundle and of the part, where one is given the other under one name, and what
-/// the part exports under names of their own.
+/// the part exports under names of their own. `Refused` comes where an import of the bundle has
+/// such a name, and where two of them are versions of one interface that are compatible: no bundle
+/// that `hux` writes has such imports, but for a file that imports such a name.
 pub(crate) fn open_signature<'a>(
     alloc: Global,
     name: &'a str,
@@ -31,18 +33,24 @@ pub(crate) fn open_signature<'a>(
     let imported = signature_of_front(alloc, name, front)?;
     let names = names_of(alloc, externs_in(imported.imports()))?;
     if has_own_name(&names) {
-        return Err(not_shown(alloc, name)?);
+        return Err(other_imports(alloc, name));
     }
     let stub = provider(alloc, &[imported, asked])?;
     let stub = caller(alloc, &signature(alloc, valid_stub(alloc, &stub)?)?)?;
-    split(alloc, valid_stub(alloc, &stub)?, &names, exports)
+    let whole = split(alloc, valid_stub(alloc, &stub)?, &names, exports)?;
+    if externs_in(whole.imports()).len() != names.len() {
+        return Err(other_imports(alloc, name));
+    }
+    Ok(whole)
 }
 
-/// The fault of an open bundle with an import of a name that stands for something else here.
-fn not_shown(alloc: Global, name: &str) -> Result<Fault<'static>, AllocError> {
+/// The fault of an open bundle with imports that are not told apart here.
+fn other_imports(alloc: Global, name: &str) -> Fault<'static> {
     let name = Escaped(name);
-    let text = format!(in alloc; "{name}: it is an open bundle whose imports begin with {OWN}")?;
-    Ok(Fault::Refused(text))
+    match format!(in alloc; "{name}: it is an open bundle with imports that hux does not write") {
+        Ok(text) => Fault::Refused(text),
+        Err(_) => Fault::Memory,
+    }
 }
 
 /// The imports or exports of a component.
