@@ -16,7 +16,7 @@ _hux() {
         play) words="--script --serve --nearest --values --mermaid --messages --json --quiet --help" ;;
         call) words="--script --serve --nearest --json --quiet --help" ;;
         live) words="--serve --nearest --record --limit --pages --values --quiet --help" ;;
-        stub) words="--out --caller --json --quiet --help" ;;
+        stub) words="--out --serve --nearest --caller --json --quiet --help" ;;
         explain) words="--json --quiet --help" ;;
         diff) words="--world --json --quiet --help" ;;
         help) words="check show core conform link unbundle plug play call live stub explain diff" ;;

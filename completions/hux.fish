@@ -74,6 +74,8 @@ complete -c hux -n '__fish_seen_subcommand_from live' -l values -d 'Tells calls 
 complete -c hux -n '__fish_seen_subcommand_from live' -s q -l quiet -d 'Tells nothing of traps on standard error'
 complete -c hux -n '__fish_seen_subcommand_from live' -s h -l help -d 'Print help'
 complete -c hux -n '__fish_seen_subcommand_from stub' -s o -l out -r -d 'The file that is written'
+complete -c hux -n '__fish_seen_subcommand_from stub' -l serve -x -d 'Which file serves an import, or IMPORTER/IMPORT; may be given again'
+complete -c hux -n '__fish_seen_subcommand_from stub' -l nearest -d 'Of several files that fit the last one serves'
 complete -c hux -n '__fish_seen_subcommand_from stub' -l caller -d 'A component that calls'
 complete -c hux -n '__fish_seen_subcommand_from stub' -l json -d 'Prints a JSON object a line'
 complete -c hux -n '__fish_seen_subcommand_from stub' -s q -l quiet -d 'Prints nothing but what is wrong'

@@ -3,15 +3,15 @@
 use crate::objects::tell_written;
 use cm_binary_model::Component;
 use cm_hux_play::files::{
-    Ending, Escaped, Fault, Files, LoadedFiles, Streams, caller, encode, load_files, provider_for,
+    Ending, Fault, Files, LoadedFiles, Streams, caller, encode, load_files, provider_for,
     refuse_to_overwrite, signature, write_file,
 };
 use cm_hux_words::{Habits, StubWords};
 use std::alloc::Global;
 use std::io::Write;
 
-/// Writes a component that exports what the first of these files imports, or one that imports what
-/// the last exports.
+/// Writes a component that exports what nothing serves of what these files import, or one that
+/// imports what the last exports.
 pub(crate) fn run_stub<'a, F: Files, S: Streams, O: Write>(
     alloc: Global,
     words: &StubWords<'a>,
@@ -35,10 +35,11 @@ fn stub_bytes<'a, F: Files>(
     words: &StubWords<'a>,
     files: &mut F,
 ) -> Result<Vec<u8>, Fault<'a>> {
-    let (loaded, unread) = load_files(alloc, files, &words.files);
+    let (mut loaded, unread) = load_files(alloc, files, &words.files);
     if let Some(fault) = unread {
         return Err(fault);
     }
+    loaded.serve_by(alloc, &words.serve)?;
     let stub = if words.caller {
         caller_of_last(alloc, &loaded)?
     } else {
@@ -47,13 +48,10 @@ fn stub_bytes<'a, F: Files>(
     Ok(encode(alloc, &stub)?)
 }
 
-/// A component that exports what these files import, or an open bundle does. A bundle among other
-/// files is refused: what its parts are given is not seen here.
+/// A component that exports what nothing serves of what these files import.
 fn provider<'a>(alloc: Global, loaded: LoadedFiles<'a>) -> Result<Component, Fault<'a>> {
-    if let Some(group) = loaded.groups().first() {
-        let name = Escaped(group.name);
-        let text = format!(in alloc; "{name}: it is a bundle: name the files that it is made of")?;
-        return Err(Fault::Refused(text));
+    if loaded.are_chosen() {
+        return loaded.stub(alloc);
     }
     if let Some(stub) = loaded.open_provider(alloc)? {
         return Ok(stub);
@@ -64,7 +62,10 @@ fn provider<'a>(alloc: Global, loaded: LoadedFiles<'a>) -> Result<Component, Fau
 
 /// A component that imports what the last of these files exports, whatever serves their imports.
 fn caller_of_last<'a>(alloc: Global, loaded: &LoadedFiles<'a>) -> Result<Component, Fault<'a>> {
-    let _components = loaded.check(alloc, None)?;
+    let components = loaded.check(alloc, None)?;
+    if loaded.are_chosen() {
+        loaded.served(alloc, &components)?;
+    }
     let Some(last) = loaded.files().get(loaded.exporter()) else {
         return Err(Fault::Memory);
     };

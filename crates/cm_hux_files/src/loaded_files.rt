@@ -245,6 +245,11 @@ impl<'a> LoadedFiles<'a> {
         Ok(())
     }
 
+    /// The words that say how the files are linked.
+    pub(crate) fn serve_words(&self) -> &ServeWords<'a> {
+        &self.serve
+    }
+
     /// The files, in order.
     pub fn files(&self) -> &[Loaded<'a>] {
         &self.loaded

@@ -41,6 +41,26 @@ impl<'a> LoadedFiles<'a> {
         }
     }
 
+    /// Whether words or bundles say which exports serve the imports of the components.
+    pub fn are_chosen(&self) -> bool {
+        let serve = self.serve_words();
+        serve.nearest || !serve.words.is_empty() || !self.groups().is_empty()
+    }
+
+    /// A component that exports what nothing serves of what the components import: behind it they
+    /// link, as words and bundles say.
+    pub fn stub(&self, alloc: Global) -> Result<Component, Fault<'a>> {
+        let components = self.check(alloc, None)?;
+        let served = self.served(alloc, &components)?;
+        let front = match self.front(alloc, &served)? {
+            Some(front) => front,
+            None => Front::of(alloc, &[])?,
+        };
+        self.link_behind(alloc, &front, components, &served)?;
+        let Front { stub, .. } = front;
+        Ok(stub)
+    }
+
     /// What imports what nothing serves of what the components import; nothing where all is served.
     /// It counts as a component: `Refused` comes where there is none left for it.
     pub fn front(&self, alloc: Global, served: &Served) -> Result<Option<Front>, Fault<'a>> {

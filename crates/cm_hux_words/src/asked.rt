@@ -82,9 +82,11 @@ pub struct LiveWords<'a> {
 #[derive(Drop)]
 pub struct StubWords<'a> {
     pub files: Vec<&'a str>,
-    /// Whether the stub calls what the last file exports, or exports what the files import.
+    /// Whether the stub calls what the last file exports, or exports what nothing serves of what
+    /// the files import.
     pub caller: bool,
     pub out: &'a str,
+    pub serve: ServeWords<'a>,
 }
 
 /// `diff A B [--world N [--world N]]`

@@ -6,8 +6,8 @@ use crate::words::{Form, Tie, Word};
 pub(crate) const ABOUT_ALL: &str =
     "A file named - is standard input. A file may have shims: nested components
 that rename what they are given, which tools write for each exported interface. It may be a
-bundle, but among several of stub without --caller: its files are components of the set then,
-called set/user, by the names that the bundle has for them, or set/1.
+bundle: its files are components of the set then, called set/user, by the names that the
+bundle has for them, or set/1.
 
 Exit status: 0 done, 1 something was refused, 2 the words are no command, 3 a drive trapped,
 4 a file cannot be read or written, or standard output not be written.
@@ -444,13 +444,14 @@ prints, to the lines begin 1 and call 0 i32:41,
         name: "stub",
         about: "Writes a component that stands in for a host",
         example: "\
-It exports what the files import, or with --caller imports what the last one exports.
+It exports what nothing serves of what the files import, or with --caller imports what the
+last one exports.
 
 Example:
   hux stub command.wasm -o host.wasm
   hux stub --caller command.wasm -o caller.wasm
   hux link host.wasm command.wasm caller.wasm",
-        words: &[FILES, STUB_FILE, CALLER],
+        words: &[FILES, STUB_FILE, SERVE, NEAREST, CALLER],
     },
     Described {
         name: "explain",

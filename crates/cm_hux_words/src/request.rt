@@ -256,7 +256,12 @@ fn stub<'a>(alloc: Global, found: &ArgMatches<'a>) -> Result<Request<'a>, WordsF
     let out = value_of(alloc, found, "out")?;
     let files = values_of(alloc, found, "files")?;
     let caller = found.get_flag("caller");
-    Ok(Request::Stub(StubWords { files, caller, out }))
+    Ok(Request::Stub(StubWords {
+        files,
+        caller,
+        out,
+        serve: serve_words(alloc, found)?,
+    }))
 }
 
 fn explain<'a>(alloc: Global, found: &ArgMatches<'a>) -> Result<Request<'a>, WordsFault> {
