@@ -3,8 +3,9 @@
 use crate::objects::tell_written;
 use cm_binary_model::Component;
 use cm_hux_play::files::{
-    Ending, Escaped, Fault, Files, LoadedFiles, Streams, caller, encode, load_files, provider_for,
-    refuse_to_overwrite, signature, write_file,
+    Checked, Ending, Escaped, Fault, Files, LoadedFiles, Streams, caller, caller_file, checked_of,
+    func_over_named, load_files, provider_file, provider_for, refuse_to_overwrite, signature,
+    write_file,
 };
 use cm_hux_words::{Habits, StubWords};
 use std::alloc::Global;
@@ -39,27 +40,77 @@ fn stub_bytes<'a, F: Files>(
     if let Some(fault) = unread {
         return Err(fault);
     }
-    let stub = if words.caller {
-        caller_of_last(alloc, &loaded)?
+    if words.caller {
+        Ok(caller_file(alloc, &caller_of_last(alloc, &loaded)?)?)
     } else {
-        provider(alloc, loaded)?
-    };
-    Ok(encode(alloc, &stub)?)
+        provider(alloc, loaded)
+    }
 }
 
-/// A component that exports what these files import, or an open bundle does. A bundle among other
-/// files is refused: what its parts are given is not seen here.
-fn provider<'a>(alloc: Global, loaded: LoadedFiles<'a>) -> Result<Component, Fault<'a>> {
+/// The file of a component that exports what these files import, or an open bundle does. A bundle
+/// among other files is refused: what its parts are given is not seen here.
+fn provider<'a>(alloc: Global, loaded: LoadedFiles<'a>) -> Result<Vec<u8>, Fault<'a>> {
     if let Some(group) = loaded.groups().first() {
         let name = Escaped(group.name);
         let text = format!(in alloc; "{name}: it is a bundle: name the files that it is made of")?;
         return Err(Fault::Refused(text));
     }
     if let Some(stub) = loaded.open_provider(alloc)? {
-        return Ok(stub);
+        return Ok(provider_file(alloc, &stub, Vec::new(alloc))?);
+    }
+    let mut names = Vec::with_capacity(alloc, loaded.files().len())?;
+    for file in loaded.files() {
+        names.push(file.name)?;
     }
     let components = loaded.into_components(alloc)?;
-    Ok(provider_for(alloc, &components)?)
+    let stub = provider_for(alloc, &components)?;
+    let checked = checked_all(alloc, &components)?;
+    refuse_over_named(alloc, &stub, &names, &checked)?;
+    Ok(provider_file(alloc, &stub, checked)?)
+}
+
+/// Refuses a function that these files of these names import of no interface, and whose type has a
+/// named type: others read no stub for it.
+fn refuse_over_named(
+    alloc: Global,
+    stub: &Component,
+    names: &[&str],
+    checked: &[Checked<'_>],
+) -> Result<(), Fault<'static>> {
+    let Some(func) = func_over_named(alloc, stub)? else {
+        return Ok(());
+    };
+    let file = Escaped(importer_of(func, names, checked));
+    let why = "of no interface, over a named type: others read no stub that has it";
+    let text = format!(in alloc; "{file}: ImportsType: it imports {func}, {why}")?;
+    Err(Fault::Refused(text))
+}
+
+/// The name of the first file that imports something under this name.
+fn importer_of<'n>(name: &str, names: &[&'n str], checked: &[Checked<'_>]) -> &'n str {
+    for (file, component) in names.iter().zip(checked) {
+        for import in component.imports() {
+            if import.name.as_str() == name {
+                return file;
+            }
+        }
+    }
+    ""
+}
+
+/// The components, which were seen to be valid, as valid ones.
+fn checked_all<'b>(
+    alloc: Global,
+    components: &'b [Component],
+) -> Result<Vec<Checked<'b>>, Fault<'static>> {
+    let mut checked = Vec::with_capacity(alloc, components.len())?;
+    for component in components {
+        match checked_of(alloc, "", component) {
+            Ok(component) => checked.push(component)?,
+            Err(_) => return Err(Fault::Memory),
+        }
+    }
+    Ok(checked)
 }
 
 /// A component that imports what the last of these files exports, whatever serves their imports.

@@ -1,1 +1,2 @@
+mod StubLaws
 mod TypesThere

@@ -23,6 +23,7 @@ mod serving;
 mod signing;
 mod stop;
 mod streams;
+mod stub_files;
 mod taking;
 mod trouble;
 mod type_imports;
@@ -32,6 +33,7 @@ pub use cm_bundle::Bundle;
 pub use cm_hux_json::{Object, ToValue, Value, event_object, line_of, signature_rows, type_text};
 pub use cm_match::{Choices, link_by};
 pub use cm_stubs::{Component, caller, provider_for};
+pub use cm_stubs_shims::func_over_named;
 pub use cm_tool_commands::{
     Asked, Checked, Disk, Fault as ToolFault, FileFault, Files, LIMIT, Linked, Outcome, Unfit,
     UnfitReason, Usage, checked_of, conform_component, read_file, signature, text_of, words_of,
@@ -55,4 +57,5 @@ pub use stop::{Stop, told};
 pub use streams::{
     DiskStreams, Streams, create, refuse_to_overwrite, unwritten, write_file, write_whole,
 };
+pub use stub_files::{caller_file, provider_file};
 pub use taking::{part_of, read_bundle};
