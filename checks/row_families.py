@@ -73,7 +73,7 @@ def answer_name(family, words):
 
 
 LIVE = ("live", "recorded", "limit", "cut", "full", "pieces", "broken", "junk", "random")
-STUBS = ("provider", "caller", "hosted", "bytes")
+STUBS = ("provider", "caller", "hosted", "bytes", "others")
 CALLS = {
     "tool": {"file": answer_file, "tool": answer_tool, "play": answer_play, "set": answer_set,
              "script": answer_script},

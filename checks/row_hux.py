@@ -1,10 +1,15 @@
 """Answers to rows of `hux`: commands, plans of a set, names of core functions, and stubs."""
 
 import json
+import sys
+from pathlib import Path
 
 from row_commands import Command
 from row_runs import Folder
 from row_texts import shown, text_of
+
+sys.path.insert(0, str(Path(__file__).resolve().parent.parent / "bench"))
+from second_names import judged  # noqa: E402
 
 
 def answer_hux(family, words):
@@ -43,14 +48,14 @@ def answer_core(family, words):
 def answer_stub(family, words):
     """`provider FILE..` tells what the stub exports, `caller FILE..` what it imports, and `hosted
     FILE..` what the caller imports over the files and their provider; `bytes` before them tells the
-    file of the stub."""
-    as_bytes = words[0] == "bytes"
-    what, *sources = words[1:] if as_bytes else words
+    file of the stub, and `others` what the second reader of names says of it."""
+    told = words[0] if words[0] in ("bytes", "others") else "names"
+    what, *sources = words if told == "names" else words[1:]
     files = [family.bytes_of(it) for it in sources]
-    return lambda: stub_line(what, files, as_bytes)
+    return lambda: stub_line(what, files, told)
 
 
-def stub_line(what, files, as_bytes):
+def stub_line(what, files, told):
     names = [f"{it}.wasm" for it in range(len(files))]
     with Folder(dict(zip(names, files))) as folder:
         if what == "hosted":
@@ -61,10 +66,11 @@ def stub_line(what, files, as_bytes):
         made = folder.read("made")
         if made is None:
             return stub_fault(json.loads(ran.out.decode())["fault"])
-        if as_bytes:
-            return made.hex()
-        lines = folder.run("component_tool", "show", "made").out.decode().splitlines()
-    return " ".join(["links", *(it.split(" ")[1] for it in lines if not it.startswith(" "))])
+        if told != "names":
+            return made.hex() if told == "bytes" else judged(made)
+        lines = folder.run("hux", "show", "made").out.decode().splitlines()
+    named = [it.split(" ")[1] for it in lines if it.startswith(("import ", "export "))]
+    return " ".join(["links", *(it.removesuffix(":").removeprefix("%") for it in named)])
 
 
 def stub_fault(fault):

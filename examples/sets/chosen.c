@@ -1,4 +1,5 @@
-/* Sets whose links are chosen: three files that offer or want one function, a middleware among them.
+/* Sets whose links are chosen: three files that offer or want one function, a middleware among them;
+ * and a bundle of the three, which chooses links by names.
  *
  * The memory of the library comes from here, so that each allocation can fail in turn. */
 #include "set.h"
@@ -129,6 +130,143 @@ static void plays(void) {
     assert(alive == 0);
 }
 
+/* The bundle of the three, in which the user is given the wrapper's export, by the form that
+ * crates/cm_bundle/FORM.md says: a head; of each part the head of its file, the file, and what it is
+ * given; what the bundle exports. */
+static const uint8_t head[] = {0x00, 'a', 's', 'm', 0x0d, 0, 1, 0};
+static const uint8_t to_provider_is[] = {6, 1, 0, 5, 4, 1, 0, 0, 0};
+static const uint8_t to_wrapper_is[] = {6, 8,  1, 1, 0, 0, 3, 'i', 'n', 'c',
+                                        5, 10, 1, 0, 1, 1, 3, 'i', 'n', 'c', 1, 0};
+static const uint8_t to_user_is[] = {6, 8,  1, 1, 0, 1, 3, 'i', 'n', 'c',
+                                     5, 10, 1, 0, 2, 1, 3, 'i', 'n', 'c', 1, 1};
+static const uint8_t exports[] = {6, 1, 0, 11, 1, 0};
+
+/* Where what the user is given begins in it, and in that the name of the alias, its sort, and the
+ * name, the sort and the index of the argument. */
+enum { USER_IS_GIVEN = 8 + 73 + 63 + 37, SORT = 3, NAME = 7, TO = 17, TO_SORT = 20, TO_INDEX = 21 };
+
+typedef struct Bundle {
+    uint8_t bytes[209];
+    size_t length;
+} Bundle;
+
+static void put(Bundle *bundle, const uint8_t *from, size_t length) {
+    memcpy(bundle->bytes + bundle->length, from, length);
+    bundle->length += length;
+}
+
+static Bundle bundled(void) {
+    const uint8_t *given[FILES] = {to_provider_is, to_wrapper_is, to_user_is};
+    const size_t lengths[FILES] = {sizeof to_provider_is, sizeof to_wrapper_is, sizeof to_user_is};
+    Bundle bundle = {{0}, 0};
+    put(&bundle, head, sizeof head);
+    for (size_t at = 0; at < FILES; at++) {
+        const uint8_t part[] = {4, (uint8_t)files[at].length};
+        put(&bundle, part, sizeof part);
+        put(&bundle, bytes + files[at].at, files[at].length);
+        put(&bundle, given[at], lengths[at]);
+    }
+    put(&bundle, exports, sizeof exports);
+    assert(bundle.length == sizeof bundle.bytes);
+    return bundle;
+}
+
+/* A bundle taken apart: its files, and the links of their imports. */
+typedef struct Apart {
+    HuxBundle seen;
+    HuxSpan files[FILES];
+    uint8_t texts[sizeof bytes];
+    HuxChoice choices[2];
+} Apart;
+
+static HuxVerdict apart(const Bundle *bundle, Apart *found) {
+    return hux_unbundle(bundle->bytes, bundle->length, &found->seen, found->files, FILES,
+                        found->texts, sizeof found->texts, found->choices, 2);
+}
+
+/* A bundle with this byte in the place of another is refused, and nothing is written. */
+static HuxVerdict changed(size_t at, uint8_t byte) {
+    Bundle bundle = bundled();
+    Apart found = {.seen = {7, 7, 7}};
+    HuxVerdict verdict;
+    bundle.bytes[USER_IS_GIVEN + at] = byte;
+    verdict = apart(&bundle, &found);
+    assert(verdict.kind != HUX_KIND_FINE);
+    assert(found.seen.files == 7 && found.files[1].length == 0 && found.texts[1] == 0);
+    return verdict;
+}
+
+/* What a bundle is taken apart into, and why it is not. */
+static void bundles(void) {
+    Bundle bundle = bundled();
+    Apart found;
+    HuxVerdict verdict;
+    uint8_t little[4] = {9, 9, 9, 9};
+    fine(apart(&bundle, &found), "hux_unbundle");
+    assert(found.seen.files == FILES && found.seen.choices == 2);
+    assert(found.seen.bytes == sizeof bytes && !memcmp(found.texts, bytes, sizeof bytes));
+    assert(!memcmp(found.files, files, sizeof files));
+    for (size_t at = 0; at < 2; at++) {
+        const HuxChoice *choice = &found.choices[at];
+        assert(choice->importer == at + 1 && choice->import_at == 0);
+        assert(choice->provider == at && choice->export_at == 0);
+    }
+    /* as much as there is room for */
+    fine(hux_unbundle(bundle.bytes, bundle.length, &found.seen, found.files, 0, little, 3,
+                      found.choices, 0), "hux_unbundle");
+    assert(found.seen.bytes == sizeof bytes && !memcmp(little, "\0as\x09", 4));
+    bundle.length--;
+    verdict = apart(&bundle, &found);
+    assert(verdict.kind == HUX_KIND_BUNDLE && verdict.reason == 2 && verdict.place == 208);
+    /* the user is given what the wrapper does not export, or what it does not import */
+    verdict = changed(NAME, 'o');
+    assert(verdict.kind == HUX_KIND_BUNDLE_LINKS && verdict.reason == 4);
+    assert(verdict.file == USER && verdict.item == 0);
+    verdict = changed(TO, 'o');
+    assert(verdict.kind == HUX_KIND_BUNDLE_LINKS && verdict.reason == 2 && verdict.file == USER);
+    /* a function of the name is given, and so no instance */
+    bundle = bundled();
+    bundle.bytes[USER_IS_GIVEN + SORT] = bundle.bytes[USER_IS_GIVEN + TO_SORT] = 5;
+    bundle.bytes[USER_IS_GIVEN + TO_INDEX] = 2;
+    verdict = apart(&bundle, &found);
+    assert(verdict.kind == HUX_KIND_BUNDLE_LINKS && verdict.reason == 2 && verdict.file == USER);
+}
+
+/* Makes a set of the files of a bundle, linked as it says. */
+static HuxVerdict make_apart(const Bundle *bundle, HuxSet *set) {
+    Apart found;
+    HuxVerdict verdict = apart(bundle, &found);
+    return verdict.kind != HUX_KIND_FINE ? verdict
+                                         : hux_set_new_by(found.texts, found.seen.bytes,
+                                                          found.files, found.seen.files, alone, 0,
+                                                          found.choices, found.seen.choices, pages,
+                                                          FILES, set);
+}
+
+/* The set of a bundle moves as that of its files; each allocation fails in turn. */
+static void plays_bundle(void) {
+    const Bundle bundle = bundled();
+    HuxCore value = core32(41);
+    long count = 0;
+    for (bool reached = true; reached; count++) {
+        HuxSet set = HUX_SET_NONE;
+        HuxEvent event;
+        failing = asked + count + 1;
+        if (make_apart(&bundle, &set).kind != HUX_KIND_FINE) {
+            assert(set.at == NULL && alive == 0);
+            fine(make_apart(&bundle, &set), "hux_unbundle and hux_set_new_by");
+        }
+        reached = asked >= failing;
+        failing = 0;
+        fine(hux_set_begin(&set, USER, &event), "hux_set_begin");
+        fine(hux_set_call(&set, 0, &value, 1, &event), "hux_set_call");
+        assert(event.kind == 2 && event.instance == PROVIDER && event.values[0].bits == 41);
+        hux_set_free(&set);
+        assert(alive == 0);
+    }
+    assert(count > 20);
+}
+
 /* Each allocation fails in turn: nothing is kept, and the same works again. */
 static void failures(void) {
     const HuxChoice to_wrapper = {USER, 0, WRAPPER, 0};
@@ -155,5 +293,9 @@ int main(void) {
     puts("a set of chosen links: ok");
     failures();
     puts("each allocation fails in turn: ok");
+    bundles();
+    puts("a bundle taken apart: ok");
+    plays_bundle();
+    puts("a set of a bundle: ok");
     return 0;
 }

@@ -1,4 +1,5 @@
-/* Plays a script on a set by its handle, move by move: play SCRIPT FILE..
+/* Plays a script on a set by its handle, move by move: play SCRIPT FILE.. or, of the files of a
+ * bundle, play SCRIPT --bundle FILE
  *
  * Scripts are those of `component_tool play`, whose lines this prints. Each guest has a list of its
  * moves; where they are used up, it stops. */
@@ -145,17 +146,65 @@ static int drive(HuxSet *set, Script *script, uint32_t root) {
     return event.kind == 8;
 }
 
+/* Links of imports that are chosen. */
+typedef struct Choices {
+    HuxChoice *list;
+    size_t count;
+} Choices;
+
+/* Takes a bundle apart, which is the one file that was read: into its files, and the links that it
+ * says. Twice it is asked, for how much there is and for that. */
+static Choices take_apart(Files *files) {
+    HuxSpan no_span = {0, 0};
+    HuxChoice no_choice = {0, 0, 0, 0};
+    uint8_t no_byte = 0;
+    Files parts = {0};
+    Choices choices;
+    HuxBundle seen;
+    fine(hux_unbundle(files->bytes, files->length, &seen, &no_span, 0, &no_byte, 0, &no_choice, 0),
+         "hux_unbundle");
+    parts.bytes = malloc(seen.bytes + 1);
+    choices.list = malloc((seen.choices + 1) * sizeof *choices.list);
+    if (seen.files > MOST_FILES || parts.bytes == NULL || choices.list == NULL) {
+        stop("too large a bundle");
+    }
+    fine(hux_unbundle(files->bytes, files->length, &seen, parts.parts, MOST_FILES, parts.bytes,
+                      seen.bytes, choices.list, seen.choices), "hux_unbundle");
+    parts.length = seen.bytes;
+    parts.count = seen.files;
+    choices.count = seen.choices;
+    drop_files(files);
+    *files = parts;
+    return choices;
+}
+
+/* Makes a set of files, or of the one file that is a bundle. */
+static void make(HuxSet *set, const Script *script, Files *files, int is_bundle) {
+    const HuxPlace no_place = {1, 1};
+    if (is_bundle) {
+        Choices choices = take_apart(files);
+        fine(hux_set_new_by(files->bytes, files->length, files->parts, files->count, &no_place, 0,
+                            choices.list, choices.count, script->pages, files->count, set),
+             "hux_set_new_by");
+        free(choices.list);
+    } else {
+        fine(hux_set_new(files->bytes, files->length, files->parts, files->count, script->pages,
+                         files->count, set), "hux_set_new");
+    }
+}
+
 int main(int count, char **words) {
     static Script script;
     HuxSet set = HUX_SET_NONE;
     Files files;
     int status = 0;
-    if (count < 3 || !read_files(&files, words + 2, (size_t)count - 2)) {
-        stop("play SCRIPT FILE..");
+    int is_bundle = count == 4 && !strcmp(words[2], "--bundle");
+    int first = is_bundle ? 3 : 2;
+    if (count <= first || !read_files(&files, words + first, (size_t)(count - first))) {
+        stop("play SCRIPT FILE.. or play SCRIPT --bundle FILE");
     }
     read_script(&script, words[1]);
-    fine(hux_set_new(files.bytes, files.length, files.parts, files.count, script.pages,
-                     files.count, &set), "hux_set_new");
+    make(&set, &script, &files, is_bundle);
     drop_files(&files);
     for (size_t at = 0; at < script.drive_count; at++) {
         if (!drive(&set, &script, script.drives[at])) {

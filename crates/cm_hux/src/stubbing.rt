@@ -1,13 +1,16 @@
 //! Writing components that stand in for a host.
 
 use crate::objects::tell_written;
-use cm_binary_model::Component;
+use cm_binary_model::{Component, Section};
 use cm_hux_play::files::{
-    Ending, Fault, Files, LoadedFiles, Streams, caller, encode, load_files, provider_for,
+    Ending, Escaped, Fault, Files, LoadedFiles, Streams, caller, load_files, provider_for,
     refuse_to_overwrite, signature, write_file,
 };
 use cm_hux_words::{Habits, StubWords};
-use std::alloc::Global;
+use cm_stubs_files::{
+    StubFileFault, caller_file, func_over_named, import_over_named, provider_file,
+};
+use std::alloc::{AllocError, Global};
 use std::io::Write;
 
 /// Writes a component that exports what nothing serves of what these files import, or one that
@@ -40,28 +43,86 @@ fn stub_bytes<'a, F: Files>(
         return Err(fault);
     }
     loaded.serve_by(alloc, &words.serve)?;
-    let stub = if words.caller {
-        caller_of_last(alloc, &loaded)?
+    if words.caller {
+        return caller_of_last(alloc, &loaded);
+    }
+    if loaded.are_chosen() || loaded.bundle().is_some() {
+        open_provider(alloc, &loaded)
     } else {
-        provider(alloc, loaded)?
+        provider(alloc, loaded)
+    }
+}
+
+/// The file of a component that exports what nothing serves of what these files import, where words
+/// or bundles say what serves it.
+fn open_provider<'a>(alloc: Global, loaded: &LoadedFiles<'a>) -> Result<Vec<u8>, Fault<'a>> {
+    let stub = match loaded.open_provider(alloc)? {
+        Some(stub) => stub,
+        None => loaded.stub(alloc)?,
     };
-    Ok(encode(alloc, &stub)?)
+    if let Some(func) = func_over_named(alloc, &stub)? {
+        for file in loaded.files() {
+            if imports(&file.shimmed.component, func) {
+                return Err(over_named(alloc, file.word(), "imports", func)?);
+            }
+        }
+    }
+    written(alloc, provider_file(alloc, &stub, &[]))
 }
 
-/// A component that exports what nothing serves of what these files import.
-fn provider<'a>(alloc: Global, loaded: LoadedFiles<'a>) -> Result<Component, Fault<'a>> {
-    if loaded.are_chosen() {
-        return loaded.stub(alloc);
-    }
-    if let Some(stub) = loaded.open_provider(alloc)? {
-        return Ok(stub);
-    }
+/// The file of a component that exports what these files import: behind it they link.
+fn provider<'a>(alloc: Global, loaded: LoadedFiles<'a>) -> Result<Vec<u8>, Fault<'a>> {
+    let names = names_of(alloc, &loaded)?;
     let components = loaded.into_components(alloc)?;
-    Ok(provider_for(alloc, &components)?)
+    let stub = provider_for(alloc, &components)?;
+    if let Some(func) = func_over_named(alloc, &stub)? {
+        for (name, component) in names.iter().zip(&components) {
+            if imports(component, func) {
+                return Err(over_named(alloc, name, "imports", func)?);
+            }
+        }
+    }
+    written(alloc, provider_file(alloc, &stub, &components))
 }
 
-/// A component that imports what the last of these files exports, whatever serves their imports.
-fn caller_of_last<'a>(alloc: Global, loaded: &LoadedFiles<'a>) -> Result<Component, Fault<'a>> {
+/// The names of the files, in order.
+fn names_of<'a>(alloc: Global, loaded: &LoadedFiles<'a>) -> Result<Vec<&'a str>, AllocError> {
+    let mut names = Vec::with_capacity(alloc, loaded.files().len())?;
+    for file in loaded.files() {
+        names.push(file.name)?;
+    }
+    Ok(names)
+}
+
+/// Whether a component imports something under this name.
+fn imports(component: &Component, name: &str) -> bool {
+    for section in component.sections() {
+        if let Section::Imports(imports) = section {
+            if imports.iter().any(|import| import.name.as_str() == name) {
+                return true;
+            }
+        }
+    }
+    false
+}
+
+/// The fault of a function that the file of this name imports or exports of no interface, and whose
+/// type has a named type: others read no stub for it.
+fn over_named(
+    alloc: Global,
+    file: &str,
+    does: &str,
+    func: &str,
+) -> Result<Fault<'static>, AllocError> {
+    let (file, func) = (Escaped(file), Escaped(func));
+    let why = "of no interface, over a named type: others read no stub that has it";
+    let text = format!(in alloc; "{file}: ImportsType: it {does} {func}, {why}")?;
+    Ok(Fault::Refused(text))
+}
+
+/// The file of a component that imports what the last of these files exports, whatever serves their
+/// imports.
+fn caller_of_last<'a>(alloc: Global, loaded: &LoadedFiles<'a>) -> Result<Vec<u8>, Fault<'a>> {
     let components = loaded.check(alloc, None)?;
     if loaded.are_chosen() {
         loaded.served(alloc, &components)?;
@@ -69,5 +130,19 @@ fn caller_of_last<'a>(alloc: Global, loaded: &LoadedFiles<'a>) -> Result<Compone
     let Some(last) = loaded.files().get(loaded.exporter()) else {
         return Err(Fault::Memory);
     };
-    Ok(caller(alloc, &signature(alloc, last.check(alloc)?)?)?)
+    let exported = signature(alloc, last.check(alloc)?)?;
+    let stub = caller(alloc, &exported)?;
+    if let Some(func) = import_over_named(alloc, &stub)? {
+        return Err(over_named(alloc, last.word(), "exports", func)?);
+    }
+    written(alloc, caller_file(alloc, &stub, &exported))
+}
+
+/// The file of a stub, or why there is none.
+fn written(alloc: Global, file: Result<Vec<u8>, StubFileFault>) -> Result<Vec<u8>, Fault<'static>> {
+    match file {
+        Ok(file) => Ok(file),
+        Err(StubFileFault::Memory) => Err(Fault::Memory),
+        Err(fault) => Err(Fault::Refused(format!(in alloc; "NotExact: {fault}")?)),
+    }
 }

@@ -11,16 +11,16 @@ use Rattle.cm_validate_model.specs.declared.fault.ValidFault.{ValidFault}
 use Rattle.cm_validate_model.specs.declared.fault.ValidReason.TheVariants as valid_reason
 use Rattle.cm_validate_model.specs.Spaces.{spaces_of}
 use Rattle.cm_validate_model.specs.Valid.{IsFaultOf, IsValid}
-use Rattle.cm_validate_functions.specs.cm_validate_spaces.Walks.{IsFineBefore}
+use Rattle.cm_host.specs.cm_validate_functions.cm_validate_spaces.Walks.{IsFineBefore}
 use Rattle.cm_match_model.specs.declared.fault.LinkFault.{LinkFault}
 use Rattle.cm_match_model.specs.declared.fault.LinkReason.TheVariants as link_reason
 use Rattle.cm_match_model.specs.Imports.{LinkSet, seen_by, sees_all}
 use Rattle.cm_match_model.specs.Links.{CanBeLinked, IsLinkFault}
-use Rattle.cm_match.specs.Before.{AreServedBefore}
+use Rattle.cm_stubs_files.specs.cm_match.Before.{AreServedBefore}
 use Rattle.cm_machine_model.specs.declared.event.Misuse.{Misuse}
 use Rattle.cm_machine_model.specs.declared.event.Misuse.TheVariants as misuse
 use Rattle.cm_machine_model.specs.State.{are_page_counts}
-use Rattle.cm_machine.specs.cm_machine_set.Running.{IsNew, RunningSet}
+use Rattle.cm_host.specs.cm_machine.cm_machine_set.Running.{IsNew, RunningSet}
 use Rattle.huxarte.specs.declared.fault.LoadFault.{LoadFault}
 use Rattle.huxarte.specs.declared.fault.LoadFault.TheVariants as fault
 

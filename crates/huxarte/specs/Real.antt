@@ -5,11 +5,12 @@ use Rattle.std.specs.List.{AllByRecursion}
 use Rattle.cm_match_model.specs.declared.fault.LinkFault.{LinkFault}
 use Rattle.cm_match_model.specs.declared.fault.LinkReason.TheVariants as link_reason
 use Rattle.cm_match_model.specs.Links.{CanBeLinked, IsLinkFault}
-use Rattle.cm_match.specs.Before.{AreServedBefore}
+use Rattle.cm_stubs_files.specs.cm_match.Before.{AreServedBefore}
 use Rattle.cm_machine_model.specs.declared.event.Misuse.{Misuse}
-use Rattle.cm_machine.specs.cm_machine_set.Running.{IsNew, RunningSet}
+use Rattle.cm_host.specs.cm_machine.cm_machine_set.Running.{IsNew, RunningSet}
 use Rattle.cm_match_model.specs.Imports.{LinkSet}
-use Rattle.cm_shims.specs.Files.{AreRead, IsFileFault, IsSound, Reading, component_in}
+use Rattle.cm_stubs_files.specs.cm_shims.Files.{AreRead, IsFileFault, IsSound, Reading}
+use Rattle.cm_stubs_files.specs.cm_shims.Files.{component_in}
 use Rattle.huxarte.specs.declared.real_fault.RealFault.{RealFault}
 use Rattle.huxarte.specs.declared.real_fault.RealFault.TheVariants as fault
 use Rattle.huxarte.specs.Loading.{IsMisuse, set_of}

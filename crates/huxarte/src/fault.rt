@@ -4,8 +4,8 @@ ghost use Rattle.std.specs.Prelude.{◌≡◌};
 ghost use Rattle.huxarte.specs.declared.fault.LoadFault.TheVariants as load_fault;
 
 use cm_binary::DecodeFault;
-use cm_machine::Misuse;
-use cm_match::LinkFault;
+use cm_host::machine::Misuse;
+use cm_stubs_files::matching::LinkFault;
 use cm_validate::ValidFault;
 use std::alloc::{AllocError, AllocFailed};
 use thiserror::Error;

@@ -12,8 +12,8 @@ mod real_shown;
 mod shown;
 
 pub use cm_binary::{Component, DecodeFault, decode, encode};
-pub use cm_machine::{Event, Guest, Misuse, Move, Player, SeeingGuest, Set, Trap};
-pub use cm_match::{LinkFault, Linked, link};
+pub use cm_host::machine::{Event, Guest, Misuse, Move, Player, SeeingGuest, Set, Trap};
+pub use cm_stubs_files::matching::{LinkFault, Linked, link};
 pub use cm_types::{CoreKind, CoreValue};
 pub use cm_validate::{Checked, ValidFault, validate};
 pub use fault::LoadFault;
@@ -44,7 +44,7 @@ pub mod files {
 /// Files of real tools, which may have shims: the plain components that they stand for, and what
 /// their shims say of types.
 pub mod shims {
-    pub use cm_shims::{
+    pub use cm_stubs_files::shims::{
         FilesFault, FitFault, FitReason, Place, Places, PlainFault, ShimFault, ShimReason, Shimmed,
         Want, check_files, fits, read, read_files,
     };
@@ -53,7 +53,7 @@ pub mod shims {
 /// Valid components and linked sets: what is imported and exported, and which export serves which
 /// import.
 pub mod components {
-    pub use cm_match::{
+    pub use cm_stubs_files::matching::{
         Choices, Link, LinkFault, LinkReason, Linked, MAX_COMPONENTS, Place, PlanLine, Target,
         link, link_by,
     };
@@ -68,7 +68,7 @@ pub mod components {
 
 /// The core functions of a component, by number and by name.
 pub mod functions {
-    pub use cm_validate_functions::{CoreFuncType, Described, Functions, Lift, StringEncoding};
+    pub use cm_host::functions::{CoreFuncType, Described, Functions, Lift, StringEncoding};
 }
 
 /// WIT texts and the worlds in them.
@@ -103,9 +103,11 @@ pub mod values {
     pub use cm_values::{PrintFault, ValueFault, ValueReason, parse, print};
 }
 
-/// Components that stand in for a host: what others import, or what one exports.
+/// Components that stand in for a host: what others import, or what one exports; and files of these
+/// that other readers take.
 pub mod stub {
     pub use cm_stubs::{StubFault, caller, caller_for, provider, provider_for};
+    pub use cm_stubs_files::{StubFileFault, caller_file, provider_file, provider_file_of};
 }
 
 /// Hosts in terms of values: functions that a host serves, and functions that it calls.
@@ -118,7 +120,7 @@ pub mod hosts {
 
 /// The machine that runs a linked set, and guests that play it.
 pub mod machine {
-    pub use cm_machine::{
+    pub use cm_host::machine::{
         Bump, Event, Flat, Guest, MAX_FRAMES, MAX_INSTANCES, MAX_MEMORY_SIZE, MAX_PAGES, Misuse,
         Move, MoveQueue, Outcome, PAGE_SIZE, Place, Player, Room, SeeingGuest, Set, Trap, Watcher,
         WithAllocator, Work,
@@ -126,6 +128,6 @@ pub mod machine {
 
     /// What holds of every history of a set.
     pub mod laws {
-        pub use cm_machine::laws::headline;
+        pub use cm_host::machine::laws::headline;
     }
 }

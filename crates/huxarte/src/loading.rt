@@ -8,8 +8,8 @@ ghost use Rattle.huxarte.specs.Loading.{AreSpelled, IsLoadFault, IsLoaded};
 
 use crate::fault::LoadFault;
 use cm_binary::{Component, decode};
-use cm_machine::Set;
-use cm_match::link;
+use cm_host::machine::Set;
+use cm_stubs_files::matching::link;
 use cm_validate::{Checked, validate};
 use std::alloc::Global;
 

@@ -4,9 +4,9 @@ ghost use Rattle.std.specs.Prelude.{IfErr, IfOk, map};
 ghost use Rattle.huxarte.specs.Real.{IsRealFault, IsRealLoaded};
 
 use crate::real_fault::RealFault;
-use cm_machine::Set;
-use cm_match::link;
-use cm_shims::{check_files, read_files};
+use cm_host::machine::Set;
+use cm_stubs_files::matching::link;
+use cm_stubs_files::shims::{check_files, read_files};
 use std::alloc::Global;
 
 /// The set of the components for which these files of real tools stand, which may have shims

@@ -3,9 +3,9 @@
 ghost use Rattle.std.specs.Prelude.{◌≡◌};
 ghost use Rattle.huxarte.specs.declared.real_fault.RealFault.TheVariants as real_fault;
 
-use cm_machine::Misuse;
-use cm_match::LinkFault;
-use cm_shims::FilesFault;
+use cm_host::machine::Misuse;
+use cm_stubs_files::matching::LinkFault;
+use cm_stubs_files::shims::FilesFault;
 use thiserror::Error;
 
 /// Why files of real tools do not come to a set that runs.

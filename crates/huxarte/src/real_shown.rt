@@ -2,7 +2,7 @@
 
 use crate::real_fault::RealFault;
 use crate::shown::signatures;
-use cm_shims::{FilesFault, ShimFault, read};
+use cm_stubs_files::shims::{FilesFault, ShimFault, read};
 use cm_tool_faults::{NamedFile, Shown};
 use cm_validate::ValidFault;
 use std::alloc::{AllocError, Global};

@@ -1,7 +1,7 @@
 //! Faults of loading in words.
 
 use crate::fault::LoadFault;
-use cm_shims::read;
+use cm_stubs_files::shims::read;
 use cm_tool_faults::{NamedFile, Shown};
 use cm_validate::{Signature, signature, validate};
 use std::alloc::{AllocError, Global};

@@ -101,7 +101,12 @@ enum HuxKind {
     /* A path leads to no type, or the function has no result. */
     HUX_KIND_NO_PART = 26,
     /* The choice `place` is of an import that is not there, or that has a choice before. */
-    HUX_KIND_CHOICE = 33
+    HUX_KIND_CHOICE = 33,
+    /* The bytes are no bundle: the number of a `BundleReason`, at the byte `place`. */
+    HUX_KIND_BUNDLE = 34,
+    /* What a part of a bundle is given does not stand for an export: the number of a
+     * `LinksReason`, of the part `file` and its argument `item`. */
+    HUX_KIND_BUNDLE_LINKS = 35
 };
 
 /* What a type is, as CanonicalABI.md despecializes it: `HuxNode.sort` has its number. */
@@ -333,6 +338,16 @@ typedef struct HuxPlan {
     size_t bytes;
 } HuxPlan;
 
+/* How much a bundle has. */
+typedef struct HuxBundle {
+    /* How many files it has. */
+    size_t files;
+    /* How many bytes they have together. */
+    size_t bytes;
+    /* How many imports they have, for each of which there is a choice. */
+    size_t choices;
+} HuxBundle;
+
 /* A core value (CanonicalABI.md, "Flattening"). */
 typedef struct HuxCore {
     /* The number, without a sign of its own: one of 32 bits in the low half, above which is 0 in
@@ -561,6 +576,26 @@ HuxVerdict hux_link_by(
     uint8_t *text,
     size_t text_length,
     size_t *wanted);
+
+/* Takes a bundle apart, the one file of a linked set: into its files, and how they are linked.
+ * With these, `hux_set_new_by` makes the set that the bundle is of, with no places.
+ *
+ * `bytes` are those of the bundle. Where the answer is HUX_KIND_FINE, `texts` has its files, one
+ * behind the other, `files` says which part of `texts` each is, and `choices` has the link of
+ * each import, by file and import: of each as much as there is room for, and `seen` says how
+ * much there is. Else the answer is the first fault, of the bundle (HUX_KIND_BUNDLE), of a file,
+ * as of `hux_link`, or of what the files are given (HUX_KIND_BUNDLE_LINKS), or HUX_KIND_MEMORY,
+ * and nothing is written. What an open bundle imports is given by no file. */
+HuxVerdict hux_unbundle(
+    const uint8_t *bytes,
+    size_t bytes_length,
+    HuxBundle *seen,
+    HuxSpan *files,
+    size_t files_length,
+    uint8_t *texts,
+    size_t texts_length,
+    HuxChoice *choices,
+    size_t choices_length);
 
 /* Tells how a type lies in memory, and in core values (CanonicalABI.md, "Alignment", "Element
  * Size" and "Flattening").

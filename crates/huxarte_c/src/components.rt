@@ -7,11 +7,13 @@ ghost use Rattle.huxarte_c_components.specs.Showing.{IsShownVerdict};
 ghost use Rattle.huxarte_c_components.specs.Laying.{IsLayoutVerdict};
 ghost use Rattle.huxarte_c_components.specs.Plans.{IsPlanVerdict};
 ghost use Rattle.huxarte_c_components.specs.Sound.{IsFileVerdict};
+ghost use Rattle.huxarte_c_components.specs.Unbundling.{IsUnbundleVerdict};
 ghost use Rattle.huxarte_c_calls.specs.Texts.{IsText};
 
 use huxarte_c_calls::{HuxNode, HuxSpan, HuxVerdict};
 use huxarte_c_components::{
-    HuxChoice, HuxPlace, HuxPlan, HuxPlanPart, check, conform, lay, link_files, plan, show,
+    HuxBundle, HuxChoice, HuxPlace, HuxPlan, HuxPlanPart, check, conform, lay, link_files, plan,
+    show, unbundle,
 };
 use std::alloc::Global;
 
@@ -114,6 +116,30 @@ pub extern "C" fn hux_link_by(
     ensures text { IsText text.old wanted.new text.new }
 {
     link_files(alloc, bytes, files, places, choices, text, wanted)
+}
+
+/// Takes a bundle apart, the one file of a linked set: into its files, and how they are linked.
+/// With these, `hux_set_new_by` makes the set that the bundle is of, with no places.
+///
+/// `bytes` are those of the bundle. Where the answer is `Fine`, `texts` has its files, one behind
+/// the other, `files` says which part of `texts` each is, and `choices` has the link of each
+/// import, by file and import: of each as much as there is room for, and `seen` says how much there
+/// is. Else the answer is the first fault, of the bundle (`Bundle`), of a file, as of `hux_link`,
+/// or of what the files are given (`BundleLinks`), or `Memory`, and nothing is written. What an
+/// open bundle imports is given by no file.
+#[unsafe(no_mangle)]
+pub extern "C" fn hux_unbundle(
+    alloc: Global,
+    bytes: &[u8],
+    seen: &mut HuxBundle,
+    files: &mut [HuxSpan],
+    texts: &mut [u8],
+    choices: &mut [HuxChoice],
+) -> HuxVerdict
+    ensures { IsUnbundleVerdict bytes.now result seen.old seen.new files.old files.new
+        texts.old texts.new choices.old choices.new }
+{
+    unbundle(alloc, bytes, seen, files, texts, choices)
 }
 
 /// Tells how a type lies in memory, and in core values (CanonicalABI.md, "Alignment", "Element

@@ -35,6 +35,8 @@ kind_number kind.Answer = 24
 kind_number kind.Answers = 25
 kind_number kind.NoPart = 26
 kind_number kind.Choice = 33
+kind_number kind.Bundle = 34
+kind_number kind.BundleLinks = 35
 
 -- what is wrong, for a reason, at an item of a place of a file
 abbrev pub at_item : HuxKind → ℕ → ℕ → ℕ → ℕ → HuxVerdict

@@ -68,4 +68,9 @@ pub enum HuxKind {
     NoPart = 26,
     /// The choice `place` is of an import that is not there, or that has a choice before.
     Choice = 33,
+    /// The bytes are no bundle: the number of a `BundleReason`, at the byte `place`.
+    Bundle = 34,
+    /// What a part of a bundle is given does not stand for an export: the number of a
+    /// `LinksReason`, of the part `file` and its argument `item`.
+    BundleLinks = 35,
 }

@@ -8,3 +8,4 @@ pub mod Linking
 pub mod Plans
 pub mod Showing
 pub mod Sound
+pub mod Unbundling

@@ -2,7 +2,8 @@
 //!
 //! Whether a file is a valid component, and fits a world; how the types of its functions lie, what
 //! passing the parameters of a call asks for, and the parameters copied; what an engine needs of a
-//! component. The words and the files of a command that is handed over are parts of the bytes.
+//! component; the files of a bundle, and how they are linked. The words and the files of a command
+//! that is handed over are parts of the bytes.
 #![tactic(auto)]
 
 mod calling;
@@ -14,6 +15,7 @@ mod copying;
 mod fault;
 mod func_type;
 mod given;
+pub mod laws;
 mod laying;
 mod linking;
 mod plan_part;
@@ -22,6 +24,8 @@ mod planning;
 mod requesting;
 mod showing;
 mod sound;
+mod unbundled;
+mod unbundling;
 
 pub use calling::call_of;
 pub use checking::{check, files_verdict};
@@ -38,3 +42,5 @@ pub use planning::plan;
 pub use requesting::ask;
 pub use showing::show;
 pub use sound::{check_one, read_one};
+pub use unbundled::HuxBundle;
+pub use unbundling::{BundleRefusal, unbundle};

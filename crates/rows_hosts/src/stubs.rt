@@ -5,15 +5,21 @@ use cm_rows::{Line, NamedFiles, word, words_from};
 use huxarte::Component;
 use huxarte::components::{LinkReason, Signature, ValidReason};
 use huxarte::files::Section;
-use huxarte::stub::{StubFault, caller, caller_for, provider, provider_for};
+use huxarte::shims::read;
+use huxarte::stub::{
+    StubFault, StubFileFault, caller, caller_file, caller_for, provider, provider_file_of,
+    provider_for,
+};
 use std::alloc::Global;
 
 /// The answer to `provided FILE..` and `called FILE..`, of the signatures of components; to
 /// `provided world NAME TEXT..` and `called world NAME TEXT..`, of the world of this full name; or
-/// to `provider` and `caller`, of no component.
+/// to `provider` and `caller`, of no component. `asked` and `calls` stand for `provided` and
+/// `called` of one signature, by files that other readers take.
 pub fn answer(alloc: Global, files: &NamedFiles, words: &[&str], line: &mut Line) {
     let signatures = signatures_of(alloc, files, words_from(words, 1), line);
     let stub = match word(words, 0) {
+        "asked" | "calls" => return answer_file(alloc, word(words, 0), signatures.last(), line),
         "provider" => provider_for(alloc, &[]),
         "caller" => caller_for(alloc, &[]),
         "provided" => provider(alloc, &signatures),
@@ -27,6 +33,33 @@ pub fn answer(alloc: Global, files: &NamedFiles, words: &[&str], line: &mut Line
         Ok(stub) => write_names(&stub, line),
         Err(fault) if is_memory(fault) => line.refuse_for(true),
         Err(fault) => line.fault(&fault),
+    }
+}
+
+/// The answer to `asked` and `calls`: the names in what the file of the stub is read as.
+fn answer_file(alloc: Global, what: &str, of: Option<&Signature>, line: &mut Line) {
+    let Some(of) = of else {
+        return line.refuse();
+    };
+    match file_of(alloc, what, of) {
+        Ok(file) => match read(alloc, &file) {
+            Ok(shimmed) => write_names(&shimmed.component, line),
+            Err(_) => line.refuse_for(true),
+        },
+        Err(StubFileFault::Memory) => line.refuse_for(true),
+        Err(fault) => line.fault(&fault),
+    }
+}
+
+/// The file of a provider of what a signature imports, or of a caller of what it exports.
+fn file_of(alloc: Global, what: &str, of: &Signature) -> Result<Vec<u8>, StubFileFault> {
+    if what == "asked" {
+        return provider_file_of(alloc, of);
+    }
+    match caller(alloc, of) {
+        Ok(stub) => caller_file(alloc, &stub, of),
+        Err(fault) if is_memory(fault) => Err(StubFileFault::Memory),
+        Err(_) => Err(StubFileFault::NotAsked),
     }
 }
 

@@ -4,7 +4,7 @@ use Rattle.std.proofs.lemmas.Option.{slice_get_read}
 use Rattle.std.specs.Prelude.{take}
 use Rattle.cm_validate_model.specs.Valid.{IsValid}
 use Rattle.cm_match_serving.specs.Sets.{sections_of}
-use Rattle.cm_validate_functions.specs.cm_validate_spaces.Checked.{sections_in}
+use Rattle.cm_host.specs.cm_validate_functions.cm_validate_spaces.Checked.{sections_in}
 use Rattle.huxarte.proofs.LoadingLaws.{all_next}
 use Rattle.huxarte.proofs.loading.checked_of.Goals as goal
 use Rattle.cm_lemmas.proofs.Lists.{take_next}

@@ -2,8 +2,8 @@ use Rattle.std.proofs.Common.{◌≡◌, ◌⊎◌, ◌∙◌, Err, map, sym, ap
 use Rattle.std.proofs.lemmas.Result.{err_from_is_err_and}
 use Rattle.cm_match_model.specs.declared.fault.LinkReason.TheVariants as link_reason
 use Rattle.cm_match_model.specs.Links.{CanBeLinked, IsLinkFault}
-use Rattle.cm_match.specs.Before.{AreServedBefore}
-use Rattle.cm_shims.specs.Files.{AreRead, reading_of}
+use Rattle.cm_stubs_files.specs.cm_match.Before.{AreServedBefore}
+use Rattle.cm_stubs_files.specs.cm_shims.Files.{AreRead, reading_of}
 use Rattle.huxarte.specs.Loading.{set_of}
 use Rattle.huxarte.specs.Real.{IsRealLinkFault, IsRealSetFault}
 use Rattle.huxarte.proofs.LoadingLaws.{misuse_of}

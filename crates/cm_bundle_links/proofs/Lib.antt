@@ -1,0 +1,5 @@
+mod FoundLaws
+mod GivenLaws
+mod LinkLaws
+mod RowLaws
+mod TableLaws

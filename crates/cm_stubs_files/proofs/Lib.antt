@@ -1,0 +1,2 @@
+mod CalledLaws
+mod StubLaws
