@@ -16,14 +16,14 @@ use std::io::Write;
 /// Links the components of files, and prints which export serves each import, or a graph of it.
 /// Before it prints it writes them as one file, where one is named. Where imports may be left open
 /// a line for each that is stands before, but for a graph.
-pub(crate) fn run_link<'a, F: Files, S: Streams, O: Write>(
+pub(crate) fn run_link<F: Files, S: Streams, O: Write>(
     alloc: Global,
-    words: &LinkWords<'a>,
+    words: &LinkWords<'_>,
     habits: Habits,
     files: &mut F,
     streams: &mut S,
     out: &mut O,
-) -> Result<Ending, Fault<'a>> {
+) -> Result<Ending, Fault> {
     let linking = Linking {
         alloc,
         habits,
@@ -36,14 +36,14 @@ pub(crate) fn run_link<'a, F: Files, S: Streams, O: Write>(
 }
 
 /// Links the components of files as `run_link` does; imports may be left open.
-pub(crate) fn run_plug<'a, F: Files, S: Streams, O: Write>(
+pub(crate) fn run_plug<F: Files, S: Streams, O: Write>(
     alloc: Global,
-    words: &PlugWords<'a>,
+    words: &PlugWords<'_>,
     habits: Habits,
     files: &mut F,
     streams: &mut S,
     out: &mut O,
-) -> Result<Ending, Fault<'a>> {
+) -> Result<Ending, Fault> {
     let linking = Linking {
         alloc,
         habits,
@@ -77,7 +77,7 @@ impl<'a> Linking<'a> {
         files: &mut F,
         streams: &mut S,
         out: &mut O,
-    ) -> Result<Ending, Fault<'a>> {
+    ) -> Result<Ending, Fault> {
         keep_inputs(self.alloc, self.out, names)?;
         let (mut loaded, unread) = load_files(self.alloc, files, names);
         loaded.serve_by(self.alloc, serve)?;
@@ -89,10 +89,10 @@ impl<'a> Linking<'a> {
     fn link<S: Streams, O: Write>(
         self,
         loaded: &LoadedFiles<'a>,
-        unread: Option<Fault<'a>>,
+        unread: Option<Fault>,
         streams: &mut S,
         out: &mut O,
-    ) -> Result<(), Fault<'a>> {
+    ) -> Result<(), Fault> {
         let components = loaded.check(self.alloc, unread)?;
         let served = loaded.served(self.alloc, &components)?;
         let front = self.front(loaded, &components, &served, out)?;
@@ -120,7 +120,7 @@ impl<'a> Linking<'a> {
         components: &[Checked<'_>],
         served: &Served,
         out: &mut O,
-    ) -> Result<Option<Front>, Fault<'a>> {
+    ) -> Result<Option<Front>, Fault> {
         if !self.is_open {
             return Ok(None);
         }
@@ -133,7 +133,7 @@ impl<'a> Linking<'a> {
 }
 
 /// Refuses to write the set over one of its files.
-fn keep_inputs(alloc: Global, out: Option<&str>, files: &[&str]) -> Result<(), Fault<'static>> {
+fn keep_inputs(alloc: Global, out: Option<&str>, files: &[&str]) -> Result<(), Fault> {
     match out {
         Some(out) => refuse_to_overwrite(alloc, out, files),
         None => Ok(()),
@@ -141,13 +141,13 @@ fn keep_inputs(alloc: Global, out: Option<&str>, files: &[&str]) -> Result<(), F
 }
 
 /// The linked set of the components of files, behind what stands in front of them.
-fn linked_behind<'a, 'b>(
+fn linked_behind<'b>(
     alloc: Global,
-    loaded: &'b LoadedFiles<'a>,
+    loaded: &'b LoadedFiles<'_>,
     front: &'b Option<Front>,
     components: Vec<Checked<'b>>,
     served: &Served,
-) -> Result<Linked<'b>, Fault<'a>> {
+) -> Result<Linked<'b>, Fault> {
     match front {
         Some(front) => loaded.link_behind(alloc, front, components, served),
         None => loaded.link_served(alloc, components, served),
@@ -174,7 +174,7 @@ impl<'a> LinkedFiles<'_, '_, 'a> {
         export: Option<usize>,
         streams: &mut S,
         out: &mut O,
-    ) -> Result<(), Fault<'a>> {
+    ) -> Result<(), Fault> {
         let Some(name) = name else {
             return Ok(());
         };
@@ -192,7 +192,7 @@ impl<'a> LinkedFiles<'_, '_, 'a> {
     }
 
     /// The set as one file, with the exports of this component.
-    fn bundle(&self, export: usize) -> Result<Vec<u8>, Fault<'a>> {
+    fn bundle(&self, export: usize) -> Result<Vec<u8>, Fault> {
         let front = match self.front {
             Some(front) => front.groups(self.alloc)?,
             None => Vec::new(self.alloc),
@@ -204,7 +204,7 @@ impl<'a> LinkedFiles<'_, '_, 'a> {
     }
 
     /// Prints a graph of the links.
-    fn tell_graph<O: Write>(&self, out: &mut O) -> Result<(), Fault<'static>> {
+    fn tell_graph<O: Write>(&self, out: &mut O) -> Result<(), Fault> {
         let names = component_names(self.alloc, self.loaded)?;
         if !self.habits.json {
             write_graph(out, &names, self.linked, self.hidden())?;
@@ -216,7 +216,7 @@ impl<'a> LinkedFiles<'_, '_, 'a> {
     }
 
     /// Prints which export serves each import.
-    fn tell_links<O: Write>(&self, out: &mut O) -> Result<(), Fault<'static>> {
+    fn tell_links<O: Write>(&self, out: &mut O) -> Result<(), Fault> {
         if self.habits.json {
             return tell_plan(self.alloc, self.linked, self.hidden(), out);
         }
@@ -226,7 +226,7 @@ impl<'a> LinkedFiles<'_, '_, 'a> {
 }
 
 /// The number of the component whose exports a bundle has, if the words say it.
-fn export_of(alloc: Global, word: Option<&str>) -> Result<Option<usize>, Fault<'static>> {
+fn export_of(alloc: Global, word: Option<&str>) -> Result<Option<usize>, Fault> {
     let Some(word) = word else {
         return Ok(None);
     };
@@ -243,7 +243,7 @@ fn tell_of_file<O: Write>(
     bytes: usize,
     habits: Habits,
     out: &mut O,
-) -> Result<(), Fault<'static>> {
+) -> Result<(), Fault> {
     if habits.json {
         tell_written(alloc, name, bytes, out)?;
     }
@@ -273,7 +273,7 @@ fn tell_or_write_open<O: Write>(
     imports: &[OpenImport<'_>],
     habits: Habits,
     out: &mut O,
-) -> Result<(), Fault<'static>> {
+) -> Result<(), Fault> {
     if habits.json {
         return tell_open(alloc, imports, out);
     }
@@ -289,15 +289,15 @@ fn write_open<O: Write>(imports: &[OpenImport<'_>], out: &mut O) -> io::Result<(
 }
 
 /// Writes the files of a bundle into a folder, and prints what each is given.
-pub(crate) fn run_unbundle<'a, F: Files, S: Streams, O: Write>(
+pub(crate) fn run_unbundle<F: Files, S: Streams, O: Write>(
     alloc: Global,
-    name: &'a str,
-    folder: &'a str,
+    name: &str,
+    folder: &str,
     habits: Habits,
     files: &mut F,
     streams: &mut S,
     out: &mut O,
-) -> Result<Ending, Fault<'a>> {
+) -> Result<Ending, Fault> {
     let bytes = read_bytes(alloc, files, name)?;
     let bundle = read_bundle(alloc, name, &bytes)?;
     write_parts(alloc, &bundle, folder, habits, streams, out)?;
@@ -310,21 +310,21 @@ pub(crate) fn run_unbundle<'a, F: Files, S: Streams, O: Write>(
 }
 
 /// Writes each part of a bundle into a folder, by its number.
-fn write_parts<'a, S: Streams, O: Write>(
+fn write_parts<S: Streams, O: Write>(
     alloc: Global,
     bundle: &Bundle<'_>,
-    folder: &'a str,
+    folder: &str,
     habits: Habits,
     streams: &mut S,
     out: &mut O,
-) -> Result<(), Fault<'a>> {
+) -> Result<(), Fault> {
     if let Err(error) = streams.create_folder(folder) {
-        return Err(unwritten(folder, &error));
+        return Err(unwritten(alloc, folder, &error));
     }
     for (number, part) in bundle.parts.iter().enumerate() {
         let path = format!(in alloc; "{folder}/{number}.wasm")?;
         if let Err(error) = write_whole(alloc, streams, path.as_str(), part.file) {
-            return Err(unwritten(folder, &error));
+            return Err(unwritten(alloc, folder, &error));
         }
         tell_of_file(alloc, path.as_str(), part.file.len(), habits, out)?;
     }

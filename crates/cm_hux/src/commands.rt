@@ -60,15 +60,15 @@ fn wants_objects(answer: &Result<Answer<'_>, WordsFault>, words: &[String]) -> b
     }
 }
 
-fn run_answer<'a, F: Files, S: Streams, O: Write, E: Write>(
+fn run_answer<F: Files, S: Streams, O: Write, E: Write>(
     alloc: Global,
-    answer: Result<Answer<'a>, WordsFault>,
+    answer: Result<Answer<'_>, WordsFault>,
     objects: bool,
     files: &mut F,
     streams: &mut S,
     out: &mut O,
     err: &mut E,
-) -> Result<Ending, Fault<'a>> {
+) -> Result<Ending, Fault> {
     match answer {
         Ok(Answer::Run(request, habits)) => run(alloc, &request, habits, files, streams, out, err),
         Ok(Answer::Text(text)) => print_text(alloc, text.as_str(), objects, out),
@@ -78,12 +78,12 @@ fn run_answer<'a, F: Files, S: Streams, O: Write, E: Write>(
 }
 
 /// Prints help or the version, as an object where objects are wanted.
-fn print_text<'a, O: Write>(
+fn print_text<O: Write>(
     alloc: Global,
     text: &str,
     objects: bool,
     out: &mut O,
-) -> Result<Ending, Fault<'a>> {
+) -> Result<Ending, Fault> {
     if !objects {
         return print(out, text);
     }
@@ -94,15 +94,15 @@ fn print_text<'a, O: Write>(
 /// Runs a command. Where only what is wrong is wanted, what the command prints is dropped, but for
 /// the files that `check` refuses, the traps of `play`, what `live` answers, and what `diff` finds
 /// broken.
-fn run<'a, F: Files, S: Streams, O: Write, E: Write>(
+fn run<F: Files, S: Streams, O: Write, E: Write>(
     alloc: Global,
-    request: &Request<'a>,
+    request: &Request<'_>,
     habits: Habits,
     files: &mut F,
     streams: &mut S,
     out: &mut O,
     err: &mut E,
-) -> Result<Ending, Fault<'a>> {
+) -> Result<Ending, Fault> {
     let prints = matches!(
         request,
         Request::Check { .. } | Request::Play(_) | Request::Live(_) | Request::Diff(_)
@@ -113,15 +113,15 @@ fn run<'a, F: Files, S: Streams, O: Write, E: Write>(
     run_command(alloc, request, habits, files, streams, out, err)
 }
 
-fn run_command<'a, F: Files, S: Streams, O: Write, E: Write>(
+fn run_command<F: Files, S: Streams, O: Write, E: Write>(
     alloc: Global,
-    request: &Request<'a>,
+    request: &Request<'_>,
     habits: Habits,
     files: &mut F,
     streams: &mut S,
     out: &mut O,
     err: &mut E,
-) -> Result<Ending, Fault<'a>> {
+) -> Result<Ending, Fault> {
     match request {
         Request::Check { files: names } => run_check(alloc, names, habits, files, out),
         Request::Show { file } => run_show(alloc, file, habits, files, out),
@@ -141,7 +141,7 @@ fn run_command<'a, F: Files, S: Streams, O: Write, E: Write>(
     }
 }
 
-fn print<'a, O: Write>(out: &mut O, text: &str) -> Result<Ending, Fault<'a>> {
+fn print<O: Write>(out: &mut O, text: &str) -> Result<Ending, Fault> {
     out.write_all(text.as_bytes())?;
     out.flush()?;
     Ok(Ending::Done)
@@ -149,13 +149,13 @@ fn print<'a, O: Write>(out: &mut O, text: &str) -> Result<Ending, Fault<'a>> {
 
 /// Prints of each file, in order, that it is a valid component, or a bundle of such ones, or what
 /// is wrong with it.
-fn run_check<'a, F: Files, O: Write>(
+fn run_check<F: Files, O: Write>(
     alloc: Global,
-    names: &[&'a str],
+    names: &[&str],
     habits: Habits,
     files: &mut F,
     out: &mut O,
-) -> Result<Ending, Fault<'a>> {
+) -> Result<Ending, Fault> {
     let mut worst = Ending::Done;
     for name in names {
         let checked = check_file(alloc, files, name);
@@ -174,7 +174,7 @@ fn run_check<'a, F: Files, O: Write>(
 }
 
 /// How a command ends by what it found of a file.
-fn ending_of(checked: &Result<(), Fault<'_>>) -> Ending {
+fn ending_of(checked: &Result<(), Fault>) -> Ending {
     match checked {
         Ok(()) => Ending::Done,
         Err(fault) => fault.ending(),
@@ -182,11 +182,7 @@ fn ending_of(checked: &Result<(), Fault<'_>>) -> Ending {
 }
 
 /// Prints the line of a file.
-fn write_checked<O: Write>(
-    name: &str,
-    checked: &Result<(), Fault<'_>>,
-    out: &mut O,
-) -> io::Result<()> {
+fn write_checked<O: Write>(name: &str, checked: &Result<(), Fault>, out: &mut O) -> io::Result<()> {
     match checked {
         Ok(()) => writeln!(out, "{}: ok", Escaped(name)),
         Err(Fault::Memory) => writeln!(out, "{}: {}", Escaped(name), Fault::Memory),
@@ -195,13 +191,13 @@ fn write_checked<O: Write>(
 }
 
 /// Says that the component of a file fits a world.
-fn run_conform<'a, F: Files, O: Write>(
+fn run_conform<F: Files, O: Write>(
     alloc: Global,
-    words: ConformWords<'a>,
+    words: ConformWords<'_>,
     habits: Habits,
     files: &mut F,
     out: &mut O,
-) -> Result<Ending, Fault<'a>> {
+) -> Result<Ending, Fault> {
     let ConformWords { wit, world, file } = words;
     let asked = Asked { wit, world, file };
     conform(alloc, asked, files)?;
@@ -213,15 +209,15 @@ fn run_conform<'a, F: Files, O: Write>(
 }
 
 /// Prints what the component of a file imports and exports.
-fn run_show<'a, F: Files, O: Write>(
+fn run_show<F: Files, O: Write>(
     alloc: Global,
-    name: &'a str,
+    name: &str,
     habits: Habits,
     files: &mut F,
     out: &mut O,
-) -> Result<Ending, Fault<'a>> {
+) -> Result<Ending, Fault> {
     let signature = signature_in(alloc, name, read_bytes(alloc, files, name)?)?;
-    let text = shown(name, show_world(alloc, &signature))?;
+    let text = shown(alloc, name, show_world(alloc, &signature))?;
     if !habits.json {
         return print(out, text.as_str());
     }
@@ -229,38 +225,34 @@ fn run_show<'a, F: Files, O: Write>(
 }
 
 /// Prints a signature as objects, before them the text that shows it.
-fn tell_shown<'a, O: Write>(
+fn tell_shown<O: Write>(
     alloc: Global,
-    name: &'a str,
+    name: &str,
     signature: &Signature,
     text: &str,
     out: &mut O,
-) -> Result<Ending, Fault<'a>> {
-    let lines = shown(name, signature_objects(alloc, signature))?;
+) -> Result<Ending, Fault> {
+    let lines = shown(alloc, name, signature_objects(alloc, signature))?;
     tell_bytes(alloc, "wit", text.as_bytes(), out)?;
     print(out, lines.as_str())
 }
 
 /// Prints what a script has to know of the core functions of the component of a file, or of each
 /// part of a bundle, in order, behind a line with its number.
-fn run_core<'a, F: Files, O: Write>(
+fn run_core<F: Files, O: Write>(
     alloc: Global,
-    name: &'a str,
+    name: &str,
     habits: Habits,
     files: &mut F,
     out: &mut O,
-) -> Result<Ending, Fault<'a>> {
+) -> Result<Ending, Fault> {
     let (loaded, unread) = load_files(alloc, files, &[name]);
     let _checked = loaded.check(alloc, unread)?;
     let text = core_text_of(alloc, &loaded, habits)?;
     print(out, text.as_str())
 }
 
-fn core_text_of<'a>(
-    alloc: Global,
-    loaded: &LoadedFiles<'a>,
-    habits: Habits,
-) -> Result<String, Fault<'a>> {
+fn core_text_of(alloc: Global, loaded: &LoadedFiles<'_>, habits: Habits) -> Result<String, Fault> {
     let mut text = String::new(alloc);
     for (number, file) in loaded.files().iter().enumerate() {
         if loaded.bundle().is_some() {
@@ -280,7 +272,7 @@ fn part_line(alloc: Global, number: usize, habits: Habits) -> Result<String, All
 }
 
 /// A line, or an object, for each core function of a file.
-fn core_lines<'a>(alloc: Global, loaded: &Loaded<'a>, habits: Habits) -> Result<String, Fault<'a>> {
+fn core_lines(alloc: Global, loaded: &Loaded<'_>, habits: Habits) -> Result<String, Fault> {
     let signature = signature_of(alloc, loaded)?;
     let checked = loaded.check(alloc)?;
     let functions = Functions::of(alloc, &checked)?;
@@ -289,13 +281,13 @@ fn core_lines<'a>(alloc: Global, loaded: &Loaded<'a>, habits: Habits) -> Result<
     } else {
         core_text(alloc, &functions, &signature)
     };
-    shown(loaded.name, text)
+    shown(alloc, loaded.name, text)
 }
 
 /// A text of a file, or why it is not shown.
-fn shown<'a>(name: &'a str, text: Result<String, ShowFault>) -> Result<String, Fault<'a>> {
+fn shown(alloc: Global, name: &str, text: Result<String, ShowFault>) -> Result<String, Fault> {
     match text {
         Ok(text) => Ok(text),
-        Err(fault) => Err(Fault::Tool(ToolFault::Show { name, fault })),
+        Err(fault) => Err(Fault::Tool(ToolFault::show(alloc, name, fault))),
     }
 }

@@ -23,7 +23,7 @@ struct Read<'a> {
 }
 
 impl<'a> Read<'a> {
-    fn of<F: Files>(alloc: Global, files: &mut F, name: &'a str) -> Result<Read<'a>, Fault<'a>> {
+    fn of<F: Files>(alloc: Global, files: &mut F, name: &'a str) -> Result<Read<'a>, Fault> {
         let bytes = read_bytes(alloc, files, name)?;
         Ok(Read { name, bytes })
     }
@@ -33,17 +33,17 @@ impl<'a> Read<'a> {
     }
 
     /// What the component of the file imports and exports, or the world of the text.
-    fn signature(&self, alloc: Global, world: Option<&'a str>) -> Result<Signature, Fault<'a>> {
+    fn signature(&self, alloc: Global, world: Option<&'a str>) -> Result<Signature, Fault> {
         match world {
             Some(world) if self.is_text() => self.world(alloc, world),
             _ => signature_in(alloc, self.name, self.bytes.to_vec(alloc)?),
         }
     }
 
-    fn world(&self, alloc: Global, world: &'a str) -> Result<Signature, Fault<'a>> {
+    fn world(&self, alloc: Global, world: &'a str) -> Result<Signature, Fault> {
         let text = match text_of(self.name, &self.bytes) {
             Ok(text) => text,
-            Err(bad) => return Err(of_file(bad, String::new(alloc))),
+            Err(bad) => return Err(of_file(alloc, bad)),
         };
         match world_of(alloc, text, world) {
             Ok(signature) => Ok(signature),
@@ -56,13 +56,13 @@ impl<'a> Read<'a> {
 }
 
 /// Prints what differs, a line each, and for whom it breaks something, and `ok` where for nobody.
-pub(crate) fn run_diff<'a, F: Files, O: Write>(
+pub(crate) fn run_diff<F: Files, O: Write>(
     alloc: Global,
-    words: &DiffWords<'a>,
+    words: &DiffWords<'_>,
     habits: Habits,
     files: &mut F,
     out: &mut O,
-) -> Result<Ending, Fault<'a>> {
+) -> Result<Ending, Fault> {
     let both = Both::read(alloc, words, files)?;
     let telling = Telling { alloc, habits };
     let is_broken = telling.tell_both(&both, out)?;
@@ -88,7 +88,7 @@ impl<'a> Both<'a> {
         alloc: Global,
         words: &DiffWords<'a>,
         files: &mut F,
-    ) -> Result<Both<'a>, Fault<'a>> {
+    ) -> Result<Both<'a>, Fault> {
         let old = Read::of(alloc, files, words.old)?;
         let new = Read::of(alloc, files, words.new)?;
         Both::of(alloc, &old, &new, &words.worlds)
@@ -99,7 +99,7 @@ impl<'a> Both<'a> {
         old: &Read<'a>,
         new: &Read<'a>,
         worlds: &[&'a str],
-    ) -> Result<Both<'a>, Fault<'a>> {
+    ) -> Result<Both<'a>, Fault> {
         let (of_old, of_new) = worlds_of(alloc, old, new, worlds)?;
         let before = old.signature(alloc, of_old)?;
         let after = new.signature(alloc, of_new)?;
@@ -119,7 +119,7 @@ fn worlds_of<'a>(
     old: &Read<'a>,
     new: &Read<'a>,
     worlds: &[&'a str],
-) -> Result<(Option<&'a str>, Option<&'a str>), Fault<'a>> {
+) -> Result<(Option<&'a str>, Option<&'a str>), Fault> {
     match (old.is_text(), new.is_text(), worlds) {
         (false, false, []) => Ok((None, None)),
         (true, false, [world]) => Ok((Some(*world), None)),
@@ -131,14 +131,14 @@ fn worlds_of<'a>(
     }
 }
 
-fn no_world_named(alloc: Global, name: &str) -> Result<Fault<'static>, Fault<'static>> {
+fn no_world_named(alloc: Global, name: &str) -> Result<Fault, Fault> {
     let name = Escaped(name);
     Ok(Fault::Usage(format!(in alloc;
         "error: {name} is a text, of which --world names the world\n"
     )?))
 }
 
-fn many_worlds(alloc: Global) -> Result<Fault<'static>, Fault<'static>> {
+fn many_worlds(alloc: Global) -> Result<Fault, Fault> {
     Ok(Fault::Usage(String::from_str(
         alloc,
         "error: --world names more worlds than there are texts\n",
@@ -146,10 +146,10 @@ fn many_worlds(alloc: Global) -> Result<Fault<'static>, Fault<'static>> {
 }
 
 /// The text that shows a signature.
-fn shown<'a>(alloc: Global, name: &'a str, of: &Signature) -> Result<String, Fault<'a>> {
+fn shown(alloc: Global, name: &str, of: &Signature) -> Result<String, Fault> {
     match show(alloc, of) {
         Ok(text) => Ok(text),
-        Err(fault) => Err(Fault::Tool(ToolFault::Show { name, fault })),
+        Err(fault) => Err(Fault::Tool(ToolFault::show(alloc, name, fault))),
     }
 }
 
@@ -162,20 +162,20 @@ struct Telling {
 
 impl Telling {
     /// Prints what differs between the two, and answers whether something is broken.
-    fn tell_both<'a, O: Write>(self, both: &Both<'a>, out: &mut O) -> Result<bool, Fault<'a>> {
+    fn tell_both<O: Write>(self, both: &Both<'_>, out: &mut O) -> Result<bool, Fault> {
         let old = shown(self.alloc, both.old_name, &both.old)?;
         let new = shown(self.alloc, both.new_name, &both.new)?;
         self.tell_texts(both, &old, &new, out)
     }
 
     /// Prints what differs between the two, which these texts show.
-    fn tell_texts<'a, O: Write>(
+    fn tell_texts<O: Write>(
         self,
-        both: &Both<'a>,
+        both: &Both<'_>,
         old: &str,
         new: &str,
         out: &mut O,
-    ) -> Result<bool, Fault<'a>> {
+    ) -> Result<bool, Fault> {
         let broken = replaces(self.alloc, &both.old, &both.new)?;
         let found = differences(self.alloc, old, new, &broken)?;
         self.tell_differences(&found, out)?;
@@ -187,7 +187,7 @@ impl Telling {
         self,
         found: &[Difference<'_>],
         out: &mut O,
-    ) -> Result<(), Fault<'static>> {
+    ) -> Result<(), Fault> {
         for difference in found {
             if !self.habits.quiet || difference.effect.breaks() {
                 self.tell_difference(difference, out)?;
@@ -200,7 +200,7 @@ impl Telling {
         self,
         difference: &Difference<'_>,
         out: &mut O,
-    ) -> Result<(), Fault<'static>> {
+    ) -> Result<(), Fault> {
         if self.habits.json {
             return tell(difference_object(self.alloc, difference)?, out);
         }
@@ -209,7 +209,7 @@ impl Telling {
     }
 
     /// Prints `ok` where nothing is broken.
-    fn tell_end<O: Write>(self, is_broken: bool, out: &mut O) -> Result<(), Fault<'static>> {
+    fn tell_end<O: Write>(self, is_broken: bool, out: &mut O) -> Result<(), Fault> {
         if self.habits.json {
             tell(Object::new(self.alloc).with("ok", !is_broken)?, out)?;
         } else if !is_broken && !self.habits.quiet {

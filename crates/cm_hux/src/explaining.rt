@@ -8,12 +8,12 @@ use std::io::Write;
 
 /// Prints the meaning of each trap, misuse and reason that the words name. Words that name nothing
 /// are no command.
-pub(crate) fn run_explain<'a, O: Write>(
+pub(crate) fn run_explain<O: Write>(
     alloc: Global,
-    words: &[&'a str],
+    words: &[&str],
     habits: Habits,
     out: &mut O,
-) -> Result<Ending, Fault<'a>> {
+) -> Result<Ending, Fault> {
     let found = match find(alloc, words) {
         Ok(found) => found,
         Err(ExplainFault::Unknown(text)) => return Err(Fault::Usage(text)),
@@ -28,7 +28,7 @@ pub(crate) fn run_explain<'a, O: Write>(
 }
 
 /// Tells an object for each row.
-fn tell_found<O: Write>(alloc: Global, found: &[Found], out: &mut O) -> Result<(), Fault<'static>> {
+fn tell_found<O: Write>(alloc: Global, found: &[Found], out: &mut O) -> Result<(), Fault> {
     for each in found {
         match each {
             Found::Whole(row) | Found::Line(row) => tell(row_object(alloc, row)?, out)?,

@@ -10,7 +10,7 @@ use std::io::Write;
 pub(crate) fn checked_object(
     alloc: Global,
     name: &str,
-    checked: &Result<(), Fault<'_>>,
+    checked: &Result<(), Fault>,
 ) -> Result<Object, AllocError> {
     let object = Object::new(alloc).with("file", name)?;
     match checked {
@@ -27,7 +27,7 @@ pub(crate) fn tell_fit<O: Write>(
     alloc: Global,
     asked: Asked<'_>,
     out: &mut O,
-) -> Result<(), Fault<'static>> {
+) -> Result<(), Fault> {
     let object = Object::new(alloc).with("file", asked.file)?;
     let object = object.with("wit", asked.wit)?.with("world", asked.world)?;
     tell(object.with("ok", true)?, out)?;
@@ -41,7 +41,7 @@ pub(crate) fn tell_written<O: Write>(
     name: &str,
     bytes: usize,
     out: &mut O,
-) -> Result<(), Fault<'static>> {
+) -> Result<(), Fault> {
     let object = Object::new(alloc).with("written", name)?;
     tell(object.with("bytes", bytes)?, out)?;
     out.flush()?;
@@ -110,7 +110,7 @@ pub(crate) fn tell_plan<O: Write>(
     linked: &Linked<'_>,
     hidden: usize,
     out: &mut O,
-) -> Result<(), Fault<'static>> {
+) -> Result<(), Fault> {
     for at in 0..linked.plan().len() {
         if let Some(line) = shown_line(linked, hidden, at) {
             let served = Some((line.provider, line.export));
@@ -129,7 +129,7 @@ pub(crate) fn tell_open<O: Write>(
     alloc: Global,
     imports: &[OpenImport<'_>],
     out: &mut O,
-) -> Result<(), Fault<'static>> {
+) -> Result<(), Fault> {
     for open in imports {
         tell(
             import_object(alloc, (open.component, open.name), None)?,
@@ -145,7 +145,7 @@ pub(crate) fn tell_arguments<O: Write>(
     alloc: Global,
     bundle: &Bundle<'_>,
     out: &mut O,
-) -> Result<(), Fault<'static>> {
+) -> Result<(), Fault> {
     for (number, part) in bundle.parts.iter().enumerate() {
         for argument in &part.arguments {
             let served = match part_of(bundle, argument.export) {

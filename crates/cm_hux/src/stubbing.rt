@@ -15,14 +15,14 @@ use std::io::Write;
 
 /// Writes a component that exports what nothing serves of what these files import, or one that
 /// imports what the last exports.
-pub(crate) fn run_stub<'a, F: Files, S: Streams, O: Write>(
+pub(crate) fn run_stub<F: Files, S: Streams, O: Write>(
     alloc: Global,
-    words: &StubWords<'a>,
+    words: &StubWords<'_>,
     habits: Habits,
     files: &mut F,
     streams: &mut S,
     out: &mut O,
-) -> Result<Ending, Fault<'a>> {
+) -> Result<Ending, Fault> {
     refuse_to_overwrite(alloc, words.out, &words.files)?;
     let bytes = stub_bytes(alloc, words, files)?;
     write_file(alloc, streams, words.out, &bytes)?;
@@ -33,11 +33,11 @@ pub(crate) fn run_stub<'a, F: Files, S: Streams, O: Write>(
 }
 
 /// The bytes of the component.
-fn stub_bytes<'a, F: Files>(
+fn stub_bytes<F: Files>(
     alloc: Global,
-    words: &StubWords<'a>,
+    words: &StubWords<'_>,
     files: &mut F,
-) -> Result<Vec<u8>, Fault<'a>> {
+) -> Result<Vec<u8>, Fault> {
     let (mut loaded, unread) = load_files(alloc, files, &words.files);
     if let Some(fault) = unread {
         return Err(fault);
@@ -55,23 +55,39 @@ fn stub_bytes<'a, F: Files>(
 
 /// The file of a component that exports what nothing serves of what these files import, where words
 /// or bundles say what serves it.
-fn open_provider<'a>(alloc: Global, loaded: &LoadedFiles<'a>) -> Result<Vec<u8>, Fault<'a>> {
-    let stub = match loaded.open_provider(alloc)? {
+fn open_provider(alloc: Global, loaded: &LoadedFiles<'_>) -> Result<Vec<u8>, Fault> {
+    let unchosen = if loaded.are_chosen() {
+        None
+    } else {
+        loaded.open_provider(alloc)?
+    };
+    let stub = match unchosen {
         Some(stub) => stub,
         None => loaded.stub(alloc)?,
     };
     if let Some(func) = func_over_named(alloc, &stub)? {
-        for file in loaded.files() {
-            if imports(&file.shimmed.component, func) {
-                return Err(over_named(alloc, file.word(), "imports", func)?);
-            }
-        }
+        return Err(over_named(alloc, importer(loaded, func), "imports", func)?);
     }
     written(alloc, provider_file(alloc, &stub, &[]))
 }
 
+/// The file that imports this function: the bundle or the last file, where one of another tool
+/// imports it under another name than its parts do.
+fn importer<'s>(loaded: &'s LoadedFiles<'_>, func: &str) -> &'s str {
+    for file in loaded.files() {
+        if imports(&file.shimmed.component, func) {
+            return file.word();
+        }
+    }
+    match (loaded.bundle(), loaded.files().last()) {
+        (Some((bundle, _)), _) => bundle,
+        (None, Some(last)) => last.word(),
+        (None, None) => "",
+    }
+}
+
 /// The file of a component that exports what these files import: behind it they link.
-fn provider<'a>(alloc: Global, loaded: LoadedFiles<'a>) -> Result<Vec<u8>, Fault<'a>> {
+fn provider(alloc: Global, loaded: LoadedFiles<'_>) -> Result<Vec<u8>, Fault> {
     let names = names_of(alloc, &loaded)?;
     let components = loaded.into_components(alloc)?;
     let stub = provider_for(alloc, &components)?;
@@ -108,12 +124,7 @@ fn imports(component: &Component, name: &str) -> bool {
 
 /// The fault of a function that the file of this name imports or exports of no interface, and whose
 /// type has a named type: others read no stub for it.
-fn over_named(
-    alloc: Global,
-    file: &str,
-    does: &str,
-    func: &str,
-) -> Result<Fault<'static>, AllocError> {
+fn over_named(alloc: Global, file: &str, does: &str, func: &str) -> Result<Fault, AllocError> {
     let (file, func) = (Escaped(file), Escaped(func));
     let why = "of no interface, over a named type: others read no stub that has it";
     let text = format!(in alloc; "{file}: ImportsType: it {does} {func}, {why}")?;
@@ -122,7 +133,7 @@ fn over_named(
 
 /// The file of a component that imports what the last of these files exports, whatever serves their
 /// imports.
-fn caller_of_last<'a>(alloc: Global, loaded: &LoadedFiles<'a>) -> Result<Vec<u8>, Fault<'a>> {
+fn caller_of_last(alloc: Global, loaded: &LoadedFiles<'_>) -> Result<Vec<u8>, Fault> {
     let components = loaded.check(alloc, None)?;
     if loaded.are_chosen() {
         loaded.served(alloc, &components)?;
@@ -139,7 +150,7 @@ fn caller_of_last<'a>(alloc: Global, loaded: &LoadedFiles<'a>) -> Result<Vec<u8>
 }
 
 /// The file of a stub, or why there is none.
-fn written(alloc: Global, file: Result<Vec<u8>, StubFileFault>) -> Result<Vec<u8>, Fault<'static>> {
+fn written(alloc: Global, file: Result<Vec<u8>, StubFileFault>) -> Result<Vec<u8>, Fault> {
     match file {
         Ok(file) => Ok(file),
         Err(StubFileFault::Memory) => Err(Fault::Memory),

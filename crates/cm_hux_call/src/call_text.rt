@@ -21,7 +21,7 @@ pub(crate) struct CallText<'a> {
 impl<'a> CallText<'a> {
     /// The call that a text says. The name ends where the first parenthesis stands. In the name of
     /// a function of an instance its last `.` may stand for `#`.
-    pub(crate) fn read(alloc: Global, text: &'a str) -> Result<CallText<'a>, Fault<'a>> {
+    pub(crate) fn read(alloc: Global, text: &'a str) -> Result<CallText<'a>, Fault> {
         match text.split_once('(') {
             Some((name, rest)) if !name.is_empty() && rest.trim_end().ends_with(')') => {
                 Ok(CallText {
@@ -37,7 +37,7 @@ impl<'a> CallText<'a> {
     }
 
     /// The arguments, of the types of the parameters of a function.
-    pub(crate) fn args(&self, alloc: Global, func: &Func) -> Result<Vec<Value>, Fault<'a>> {
+    pub(crate) fn args(&self, alloc: Global, func: &Func) -> Result<Vec<Value>, Fault> {
         let values = self.text.get(self.at..).unwrap_or("");
         if func.params.is_empty() {
             return self.no_args(alloc, values);
@@ -55,7 +55,7 @@ impl<'a> CallText<'a> {
     }
 
     /// No arguments, where the parentheses have none in them.
-    fn no_args(&self, alloc: Global, values: &str) -> Result<Vec<Value>, Fault<'a>> {
+    fn no_args(&self, alloc: Global, values: &str) -> Result<Vec<Value>, Fault> {
         match values.trim().strip_prefix('(') {
             Some(rest) if rest.trim() == ")" => Ok(Vec::new(alloc)),
             _ => Err(self.refuse(alloc, "the function has no parameters")?),
@@ -63,7 +63,7 @@ impl<'a> CallText<'a> {
     }
 
     /// The fault of the call: a text on what is wrong.
-    pub(crate) fn refuse(&self, alloc: Global, text: &str) -> Result<Fault<'a>, AllocError> {
+    pub(crate) fn refuse(&self, alloc: Global, text: &str) -> Result<Fault, AllocError> {
         let call = Escaped(self.text);
         Ok(Fault::Refused(format!(in alloc; "{call}: {text}")?))
     }

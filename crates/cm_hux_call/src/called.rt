@@ -47,11 +47,11 @@ pub(crate) struct Called<'f> {
 
 impl<'f> Called<'f> {
     /// The call that a text says, of a function that a caller imports.
-    pub(crate) fn of<'a>(
+    pub(crate) fn of(
         alloc: Global,
-        call: &CallText<'a>,
+        call: &CallText<'_>,
         caller: &'f Checked<'_>,
-    ) -> Result<Called<'f>, Fault<'a>> {
+    ) -> Result<Called<'f>, Fault> {
         let functions = Functions::of(alloc, caller)?;
         let Some(imported) = imported_func(&functions, call.name.as_str()) else {
             return Err(call.refuse(alloc, "the last file exports no such function")?);
@@ -64,12 +64,12 @@ impl<'f> Called<'f> {
 }
 
 /// The guest that makes a call.
-fn pass<'a>(
+fn pass(
     alloc: Global,
-    call: &CallText<'a>,
+    call: &CallText<'_>,
     imported: Imported<'_>,
     args: &[Value],
-) -> Result<Passed, Fault<'a>> {
+) -> Result<Passed, Fault> {
     match Passed::new(alloc, imported.core_func, imported.func, args) {
         Ok(passed) => Ok(passed),
         Err(PassFault::Memory | PassFault::Values(ValuesFault::Memory)) => Err(Fault::Memory),

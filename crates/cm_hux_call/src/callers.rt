@@ -13,11 +13,11 @@ const CALLER: &str = "the caller";
 
 /// The caller of what the last of these files exports, which have to link without it. The fault of
 /// `unread` is that of the file behind them.
-pub(crate) fn caller_of<'a>(
+pub(crate) fn caller_of(
     alloc: Global,
-    loaded: &LoadedFiles<'a>,
-    unread: Option<Fault<'a>>,
-) -> Result<Component, Fault<'a>> {
+    loaded: &LoadedFiles<'_>,
+    unread: Option<Fault>,
+) -> Result<Component, Fault> {
     let _linked = loaded.link(alloc, unread)?;
     let Some(last) = loaded.files().get(loaded.exporter()) else {
         return Err(Fault::Memory);
@@ -27,11 +27,11 @@ pub(crate) fn caller_of<'a>(
 
 /// The linked set of some files and a caller behind them, whose imports the exports of the last
 /// file serve.
-pub(crate) fn link_behind<'a, 'b>(
+pub(crate) fn link_behind<'b>(
     alloc: Global,
-    loaded: &'b LoadedFiles<'a>,
+    loaded: &'b LoadedFiles<'_>,
     stub: &'b Component,
-) -> Result<Linked<'b>, Fault<'a>> {
+) -> Result<Linked<'b>, Fault> {
     let mut components = loaded.check(alloc, None)?;
     let mut choices = loaded.choices(alloc, &components)?;
     match checked_of(alloc, CALLER, stub) {
@@ -39,7 +39,7 @@ pub(crate) fn link_behind<'a, 'b>(
             choose_of(alloc, &mut choices, loaded.exporter(), &components, &caller)?;
             components.push(caller)?;
         }
-        Err(bad) => return Err(of_file(bad, String::new(alloc))),
+        Err(bad) => return Err(of_file(alloc, bad)),
     }
     let count = components.len();
     match link_by(alloc, components, choices) {
@@ -77,7 +77,7 @@ pub(crate) fn set_with_caller(
     alloc: Global,
     linked: &Linked<'_>,
     pages: &[u32],
-) -> Result<Set, Fault<'static>> {
+) -> Result<Set, Fault> {
     let files = linked.components().len().saturating_sub(1);
     let size = SetSize::new(files, pages);
     let mut all = pages.to_vec(alloc)?;

@@ -20,14 +20,14 @@ use std::io::Write;
 ///
 /// A call that traps ends as `Trapped`, with a line on standard error. The script, if there is one,
 /// is one for the files alone; without it each guest stops at once.
-pub fn run_call<'a, F: Files, O: Write, E: Write>(
+pub fn run_call<F: Files, O: Write, E: Write>(
     alloc: Global,
-    words: &CallWords<'a>,
+    words: &CallWords<'_>,
     json: bool,
     files: &mut F,
     out: &mut O,
     err: &mut E,
-) -> Result<Ending, Fault<'a>> {
+) -> Result<Ending, Fault> {
     let call = CallText::read(alloc, words.call)?;
     let (mut loaded, unread) = load_files(alloc, files, &words.files);
     loaded.serve_by(alloc, &words.serve)?;
@@ -76,7 +76,7 @@ impl Call<'_> {
         script: HuxScript,
         out: &mut O,
         err: &mut E,
-    ) -> Result<Ending, Fault<'static>> {
+    ) -> Result<Ending, Fault> {
         let Call {
             alloc,
             json,
@@ -107,7 +107,7 @@ fn tell<O: Write>(
     func: &Func,
     resumed: &mut Resumed<'_, O>,
     results: &Results,
-) -> Result<(), Fault<'static>> {
+) -> Result<(), Fault> {
     let memory = set.memory(resumed.root()).unwrap_or(&[]);
     match results.answered(alloc, func, memory, resumed.values())? {
         Answered::Nothing => end(resumed.write_result(None)),
@@ -117,7 +117,7 @@ fn tell<O: Write>(
 }
 
 /// How the call ends where what was printed is written so.
-fn end(written: Result<(), Stop>) -> Result<(), Fault<'static>> {
+fn end(written: Result<(), Stop>) -> Result<(), Fault> {
     match written {
         Ok(()) => Ok(()),
         Err(stop) => Err(stop.fault()),

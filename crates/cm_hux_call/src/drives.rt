@@ -24,11 +24,7 @@ pub(crate) struct Drives {
 impl Drives {
     /// Those of a script, whose roots have to be files, and behind them that of a caller, whose
     /// guest this is.
-    pub(crate) fn new(
-        alloc: Global,
-        script: HuxScript,
-        guest: Seat,
-    ) -> Result<Drives, Fault<'static>> {
+    pub(crate) fn new(alloc: Global, script: HuxScript, guest: Seat) -> Result<Drives, Fault> {
         let HuxScript { script, checks } = script;
         let Script {
             pages: _,
@@ -77,7 +73,7 @@ impl Drives {
 }
 
 /// Refuses drives whose root is none of the files, but the caller behind them, or nothing.
-fn are_of_files(begins: &[u32], components: usize) -> Result<(), Fault<'static>> {
+fn are_of_files(begins: &[u32], components: usize) -> Result<(), Fault> {
     for (index, root) in begins.iter().enumerate() {
         if *root as usize >= components {
             let drive = Drive {

@@ -94,7 +94,7 @@ impl<O: Write> Printer for Resumed<'_, O> {
         Ok(())
     }
 
-    fn refused(&mut self, fault: &Fault<'_>) -> Result<(), Stop> {
+    fn refused(&mut self, fault: &Fault) -> Result<(), Stop> {
         if self.json {
             told(tell_fault(self.alloc, fault, self.out))?;
         }

@@ -7,12 +7,12 @@ use std::alloc::{AllocError, Global};
 use std::collections::VecDeque;
 
 /// The script of a file; without one, that of guests that stop at once.
-pub(crate) fn script_of<'a, F: Files>(
+pub(crate) fn script_of<F: Files>(
     alloc: Global,
-    name: Option<&'a str>,
+    name: Option<&str>,
     components: &[Checked<'_>],
     files: &mut F,
-) -> Result<HuxScript, Fault<'a>> {
+) -> Result<HuxScript, Fault> {
     let Some(name) = name else {
         return Ok(still(alloc, components)?);
     };

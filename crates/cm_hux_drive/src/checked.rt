@@ -117,7 +117,7 @@ impl<'w, P: Printer, E: Write> Watching<'w, P, E> {
         Ending::Trapped
     }
 
-    fn refuse(&mut self, fault: &Fault<'_>) -> Result<Ending, Stop> {
+    fn refuse(&mut self, fault: &Fault) -> Result<Ending, Stop> {
         report(self.err, fault);
         self.printer.refused(fault)?;
         Ok(Ending::Refused)

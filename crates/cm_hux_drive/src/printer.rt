@@ -23,5 +23,5 @@ pub trait Printer {
 
     /// A drive is refused, or has reached its limit, or a check has failed, which standard error
     /// has a line of.
-    fn refused(&mut self, fault: &Fault<'_>) -> Result<(), Stop>;
+    fn refused(&mut self, fault: &Fault) -> Result<(), Stop>;
 }

@@ -6,7 +6,7 @@ use cm_tool_lines::SetSize;
 use std::alloc::Global;
 
 /// A set of what is linked, with so many pages of memory for each component.
-pub fn make_set(alloc: Global, linked: &Linked<'_>, pages: &[u32]) -> Result<Set, Fault<'static>> {
+pub fn make_set(alloc: Global, linked: &Linked<'_>, pages: &[u32]) -> Result<Set, Fault> {
     match Set::new(alloc, linked, pages) {
         Ok(set) => Ok(set),
         Err(misuse) => {

@@ -12,13 +12,13 @@ use std::alloc::{AllocError, Global};
 /// What stands behind the tail of a `TwoProviders`: the words that choose the last component before
 /// this one that has an export for the import. The names are those of the files; what has none is
 /// not seen.
-pub(crate) fn choosing_text<'a, 'n>(
+pub(crate) fn choosing_text(
     alloc: Global,
-    files: &[Loaded<'a>],
-    names: &[FileName<'n>],
+    files: &[Loaded<'_>],
+    names: &[FileName<'_>],
     first: usize,
     import: &ExternName,
-) -> Result<String, Fault<'a>> {
+) -> Result<String, Fault> {
     for (number, file) in files.iter().enumerate().take(first).rev() {
         let name = file_of(names, number);
         let checked = file.check(alloc)?;

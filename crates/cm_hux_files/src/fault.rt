@@ -32,7 +32,7 @@ pub enum WhyNoFile {
 
 /// Why a command ends early. A name is the word of the command line.
 #[derive(Drop)]
-pub enum Fault<'a> {
+pub enum Fault {
     /// The words are no command: what is wrong, and what is expected.
     Usage(String),
     /// A component file is not what is wanted. The name is that of the file, or what a part of a
@@ -45,10 +45,10 @@ pub enum Fault<'a> {
     /// No stub is made.
     Stub(StubFault),
     /// A bundle is not made or taken.
-    Bundle(Trouble<'a>),
+    Bundle(Trouble),
     /// A file cannot be written.
     Unwritten {
-        name: &'a str,
+        name: String,
         kind: io::ErrorKind,
     },
     /// Standard input cannot be read.
@@ -60,14 +60,14 @@ pub enum Fault<'a> {
     /// What a script, a call or a line says is refused, in words.
     Refused(String),
     /// What `component_tool` says alike.
-    Tool(ToolFault<'a>),
+    Tool(ToolFault),
     /// There was no memory.
     Memory,
     /// Standard output cannot be written.
     Output,
 }
 
-impl Fault<'_> {
+impl Fault {
     /// How a command ends that ends by this fault: `Usage` where the words are no command, `Unread`
     /// where a file or a stream cannot be read or written, else `Refused`.
     pub fn ending(&self) -> Ending
@@ -98,13 +98,13 @@ fn ending_of_why(why: WhyNoFile) -> Ending
 }
 
 /// How a command ends by a fault that `component_tool` has too.
-fn ending_of_tool(fault: &ToolFault<'_>) -> Ending
+fn ending_of_tool(fault: &ToolFault) -> Ending
     ensures { ending_status result ≡ tool.fault_status fault.now }
 {
     match fault {
         ToolFault::Usage(_) => Ending::Usage,
         ToolFault::Output => Ending::Unread,
-        ToolFault::File { bad, .. } => ending_of_file(bad.reason),
+        ToolFault::File { reason, .. } => ending_of_file(*reason),
         ToolFault::Memory
         | ToolFault::Show { .. }
         | ToolFault::Unfit { .. }
@@ -128,15 +128,15 @@ fn ending_of_file(reason: FileReason) -> Ending
     }
 }
 
-impl<'a> From<ToolFault<'a>> for Fault<'a> {
+impl From<ToolFault> for Fault {
     ghost from_gives = { λ e f. f ≡ fault.Tool e };
 
-    fn from(fault: ToolFault<'a>) -> Self {
+    fn from(fault: ToolFault) -> Self {
         Fault::Tool(fault)
     }
 }
 
-impl From<StubFault> for Fault<'_> {
+impl From<StubFault> for Fault {
     fn from(fault: StubFault) -> Self {
         match fault {
             StubFault::Memory => Fault::Memory,
@@ -145,8 +145,8 @@ impl From<StubFault> for Fault<'_> {
     }
 }
 
-impl<'a> From<Trouble<'a>> for Fault<'a> {
-    fn from(trouble: Trouble<'a>) -> Self {
+impl From<Trouble> for Fault {
+    fn from(trouble: Trouble) -> Self {
         match trouble {
             Trouble::Memory => Fault::Memory,
             _ => Fault::Bundle(trouble),
@@ -154,7 +154,7 @@ impl<'a> From<Trouble<'a>> for Fault<'a> {
     }
 }
 
-impl From<AllocError> for Fault<'_> {
+impl From<AllocError> for Fault {
     ghost from_gives = { λ _ f. f ≡ fault.Memory };
 
     fn from(_error: AllocError) -> Self {
@@ -162,7 +162,7 @@ impl From<AllocError> for Fault<'_> {
     }
 }
 
-impl<T: Drop> From<AllocFailed<T>> for Fault<'_> {
+impl<T: Drop> From<AllocFailed<T>> for Fault {
     ghost from_gives = { λ _ f. f ≡ fault.Memory };
 
     fn from(_error: AllocFailed<T>) -> Self {
@@ -170,7 +170,7 @@ impl<T: Drop> From<AllocFailed<T>> for Fault<'_> {
     }
 }
 
-impl From<io::Error> for Fault<'_> {
+impl From<io::Error> for Fault {
     ghost from_gives = { λ _ f. f ≡ fault.Output };
 
     fn from(_error: io::Error) -> Self {
@@ -178,7 +178,7 @@ impl From<io::Error> for Fault<'_> {
     }
 }
 
-impl fmt::Display for Fault<'_> {
+impl fmt::Display for Fault {
     fn fmt<W: fmt::Write>(&self, f: &mut fmt::Formatter<W>) -> fmt::Result {
         match self {
             Fault::Usage(text) => f.write_str(text.as_str()),
@@ -186,7 +186,12 @@ impl fmt::Display for Fault<'_> {
             Fault::Stub(fault) => write!(f, "{fault}"),
             Fault::Bundle(trouble) => write!(f, "{trouble}"),
             Fault::Unwritten { name, kind } => {
-                write!(f, "{}: Write: {}", Escaped(name), why_unwritten(*kind))
+                write!(
+                    f,
+                    "{}: Write: {}",
+                    Escaped(name.as_str()),
+                    why_unwritten(*kind)
+                )
             }
             Fault::Input => f.write_str("standard input: Read: it cannot be read"),
             Fault::Moves { limit } => write!(f, "limit: {limit} moves were made"),

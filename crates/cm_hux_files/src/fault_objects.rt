@@ -5,7 +5,7 @@ use crate::trouble::Trouble;
 use cm_hux_json::{Object, Value, first_word};
 use cm_stubs::StubFault;
 use cm_tool_commands::{
-    BadFile, Fault as ToolFault, FileReason, LinkFault, Unfit, UnfitReason, ValidFault,
+    Asked, Fault as ToolFault, FileReason, LinkFault, Unfit, UnfitReason, ValidFault,
 };
 use std::alloc::{AllocError, Global};
 use std::io::Write;
@@ -17,7 +17,7 @@ use std::str;
 /// not there.
 ///
 /// `AllocError` comes where there is no memory.
-pub fn fault_object(alloc: Global, fault: &Fault<'_>) -> Result<Value, AllocError> {
+pub fn fault_object(alloc: Global, fault: &Fault) -> Result<Value, AllocError> {
     let object = with_fault(Object::new(alloc), fault)?;
     let object = object.with("status", fault.ending().status())?;
     let text = format!(in alloc; "{fault}")?;
@@ -25,11 +25,7 @@ pub fn fault_object(alloc: Global, fault: &Fault<'_>) -> Result<Value, AllocErro
 }
 
 /// Writes a fault as a line, `{"fault":{..}}`.
-pub fn tell_fault<O: Write>(
-    alloc: Global,
-    fault: &Fault<'_>,
-    out: &mut O,
-) -> Result<(), Fault<'static>> {
+pub fn tell_fault<O: Write>(alloc: Global, fault: &Fault, out: &mut O) -> Result<(), Fault> {
     let object = Object::new(alloc).with("fault", fault_object(alloc, fault)?)?;
     tell(object, out)?;
     out.flush()?;
@@ -37,7 +33,7 @@ pub fn tell_fault<O: Write>(
 }
 
 /// Writes an object as a line.
-pub fn tell<O: Write>(object: Object, out: &mut O) -> Result<(), Fault<'static>> {
+pub fn tell<O: Write>(object: Object, out: &mut O) -> Result<(), Fault> {
     let line = object.line()?;
     out.write_all(line.as_bytes())?;
     Ok(())
@@ -49,7 +45,7 @@ pub fn tell_bytes<O: Write>(
     name: &str,
     bytes: &[u8],
     out: &mut O,
-) -> Result<(), Fault<'static>> {
+) -> Result<(), Fault> {
     let text = str::from_utf8(bytes).unwrap_or("");
     tell(Object::new(alloc).with(name, text)?, out)?;
     out.flush()?;
@@ -62,13 +58,13 @@ fn bare(text: &str) -> &str {
     text.strip_prefix("error: ").unwrap_or(text)
 }
 
-fn with_fault(object: Object, fault: &Fault<'_>) -> Result<Object, AllocError> {
+fn with_fault(object: Object, fault: &Fault) -> Result<Object, AllocError> {
     match fault {
         Fault::Usage(_) => object.with("name", "Usage"),
         Fault::File { name, why, .. } => with_no_file(object, name.as_str(), why),
         Fault::Stub(fault) => with_stub_fault(object, fault),
         Fault::Bundle(trouble) => with_trouble(object, trouble),
-        Fault::Unwritten { name, .. } => object.with("name", "Write")?.with("file", *name),
+        Fault::Unwritten { name, .. } => object.with("name", "Write")?.with("file", name.as_str()),
         Fault::Input => object.with("name", "Input"),
         Fault::Moves { limit } => object.with("name", "Limit")?.with("limit", *limit),
         Fault::Refused(text) => {
@@ -129,7 +125,7 @@ fn with_stub_fault(object: Object, fault: &StubFault) -> Result<Object, AllocErr
     }
 }
 
-fn with_trouble(object: Object, trouble: &Trouble<'_>) -> Result<Object, AllocError> {
+fn with_trouble(object: Object, trouble: &Trouble) -> Result<Object, AllocError> {
     match trouble {
         Trouble::NotMade(fault) => object.with_shown("meaning", fault)?.with("name", "NotMade"),
         Trouble::ImportsType { component } => object
@@ -138,7 +134,7 @@ fn with_trouble(object: Object, trouble: &Trouble<'_>) -> Result<Object, AllocEr
         Trouble::NoBundle { name, fault } => {
             let number = fault.reason.number();
             let object = object.with_derived("BundleReason", &fault.reason, number)?;
-            object.with("file", *name)?.with("at", fault.at)
+            object.with("file", name.as_str())?.with("at", fault.at)
         }
         Trouble::OtherLinks { name, .. } => {
             let object = object.with("name", "OtherLinks")?;
@@ -148,16 +144,24 @@ fn with_trouble(object: Object, trouble: &Trouble<'_>) -> Result<Object, AllocEr
     }
 }
 
-fn with_tool_fault(object: Object, fault: &ToolFault<'_>) -> Result<Object, AllocError> {
+fn with_tool_fault(object: Object, fault: &ToolFault) -> Result<Object, AllocError> {
     match fault {
         ToolFault::Usage(_) => object.with("name", "Usage"),
         ToolFault::Memory => object.with("name", "Memory"),
-        ToolFault::File { bad, .. } => with_bad_file(object, bad),
+        ToolFault::File { name, reason, .. } => {
+            with_file_reason(object.with("file", name.as_str())?, reason)
+        }
         ToolFault::Show { name, fault } => {
             let object = object.with_derived("ShowFault", fault, fault.number())?;
-            object.with("file", *name)
+            object.with("file", name.as_str())
         }
-        ToolFault::Unfit { unfit, .. } => with_unfit(object, unfit),
+        ToolFault::Unfit {
+            wit,
+            world,
+            file,
+            reason,
+            ..
+        } => with_unfit(object, &Asked { wit, world, file }.unfit(*reason)),
         ToolFault::Link { fault, .. } => with_link_fault(object, fault),
         ToolFault::Script(_) => with_line(object.with("name", "Script")?, fault),
         ToolFault::Set { misuse, .. } => object.with_derived("Misuse", misuse, misuse.number()),
@@ -174,7 +178,7 @@ fn with_tool_fault(object: Object, fault: &ToolFault<'_>) -> Result<Object, Allo
 }
 
 /// With the line of a script, whose number stands in what the fault is shown as.
-fn with_line(object: Object, fault: &ToolFault<'_>) -> Result<Object, AllocError> {
+fn with_line(object: Object, fault: &ToolFault) -> Result<Object, AllocError> {
     let shown = object.shown(fault)?;
     let line = line_number(shown.as_str());
     object.with("line", line)
@@ -184,10 +188,6 @@ fn line_number(shown: &str) -> Option<u64> {
     let rest = shown.strip_prefix("script line ")?;
     let (digits, _) = rest.split_once(':')?;
     digits.parse::<u64>().ok()
-}
-
-fn with_bad_file(object: Object, bad: &BadFile<'_>) -> Result<Object, AllocError> {
-    with_file_reason(object.with("file", bad.name)?, &bad.reason)
 }
 
 fn with_file_reason(object: Object, reason: &FileReason) -> Result<Object, AllocError> {

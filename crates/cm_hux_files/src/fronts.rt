@@ -43,7 +43,7 @@ impl Front {
     /// What imports all that these signatures do: versions of an interface that are compatible are
     /// one import, under the latest of them. `Refused` comes where a function passes handles of a
     /// resource that its signature does not import.
-    pub(crate) fn of(alloc: Global, signatures: &[Signature]) -> Result<Front, Fault<'static>> {
+    pub(crate) fn of(alloc: Global, signatures: &[Signature]) -> Result<Front, Fault> {
         let groups = groups_of(alloc, signatures)?;
         let stub = stub_of(alloc, "", &borrowed(alloc, &groups)?)?;
         Ok(Front { groups, stub })
@@ -56,19 +56,24 @@ impl Front {
 }
 
 /// The sections that import what these signatures do.
-fn groups_of(alloc: Global, signatures: &[Signature]) -> Result<Vec<FrontGroup>, Fault<'static>> {
+fn groups_of(alloc: Global, signatures: &[Signature]) -> Result<Vec<FrontGroup>, Fault> {
     let exporter = match provider(alloc, signatures) {
         Ok(stub) => stub,
         Err(StubFault::NoResource) => return Err(no_resource(alloc)),
         Err(fault) => return Err(Fault::from(fault)),
     };
-    let exports = signature(alloc, valid_stub(alloc, &exporter)?)?;
-    let importer = caller(alloc, &exports)?;
+    let importer = caller_of(alloc, &exporter)?;
     Ok(grouped(alloc, importer.sections())?)
 }
 
+/// A component that imports what a stub exports.
+pub(crate) fn caller_of(alloc: Global, stub: &Component) -> Result<Component, Fault> {
+    let exports = signature(alloc, valid_stub(alloc, stub)?)?;
+    Ok(caller(alloc, &exports)?)
+}
+
 /// The fault of an open import that passes handles of a resource that is not open.
-fn no_resource(alloc: Global) -> Fault<'static> {
+fn no_resource(alloc: Global) -> Fault {
     let text = "NoResource: an import that nothing serves passes handles of a resource of one that \
                 is served: an open bundle cannot import it alone";
     match String::from_str(alloc, text) {
@@ -78,10 +83,10 @@ fn no_resource(alloc: Global) -> Fault<'static> {
 }
 
 /// A stub as a valid component.
-pub(crate) fn valid_stub(alloc: Global, stub: &Component) -> Result<Checked<'_>, Fault<'static>> {
+pub(crate) fn valid_stub(alloc: Global, stub: &Component) -> Result<Checked<'_>, Fault> {
     match checked_of(alloc, "", stub) {
         Ok(checked) => Ok(checked),
-        Err(bad) => Err(of_file(bad, String::new(alloc))),
+        Err(bad) => Err(of_file(alloc, bad)),
     }
 }
 
@@ -193,22 +198,22 @@ fn borrowed(alloc: Global, groups: &[FrontGroup]) -> Result<Vec<ImportGroup<'_>>
 
 /// A component that exports what stands in front of the parts of the bundle of this name, in order:
 /// what is wrong there is told of that name.
-pub(crate) fn stub_of<'a>(
+pub(crate) fn stub_of(
     alloc: Global,
-    name: &'a str,
+    name: &str,
     front: &[ImportGroup<'_>],
-) -> Result<Component, Fault<'a>> {
+) -> Result<Component, Fault> {
     let imports = signature_of_front(alloc, name, front)?;
     Ok(provider(alloc, &[imports])?)
 }
 
 /// What stands in front of the parts of the bundle of this name, as a component that has nothing
 /// else.
-pub(crate) fn signature_of_front<'a>(
+pub(crate) fn signature_of_front(
     alloc: Global,
-    name: &'a str,
+    name: &str,
     front: &[ImportGroup<'_>],
-) -> Result<Signature, Fault<'a>> {
+) -> Result<Signature, Fault> {
     let bytes = file_of(alloc, front)?;
     let front = load_part(alloc, name, String::from_str(alloc, name)?, bytes)?;
     Ok(signature(alloc, front.check(alloc)?)?)

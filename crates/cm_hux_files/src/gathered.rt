@@ -18,7 +18,7 @@ pub(crate) fn gathered(
     types: Types,
     imports: Vec<Extern>,
     exports: Vec<Extern>,
-) -> Result<Signature, Fault<'static>> {
+) -> Result<Signature, Fault> {
     if !are_there(&types, &imports) || !are_there(&types, &exports) {
         return Err(Fault::Stub(StubFault::NotExact));
     }

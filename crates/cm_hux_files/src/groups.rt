@@ -96,7 +96,7 @@ fn place_of(groups: &[Group<'_>], component: usize) -> Place {
 }
 
 /// The fault of a bundle of this name, inside of which there is this fault.
-pub(crate) fn fault_inside<'a>(alloc: Global, name: &str, fault: Fault<'a>) -> Fault<'a> {
+pub(crate) fn fault_inside(alloc: Global, name: &str, fault: Fault) -> Fault {
     match &fault {
         Fault::Bundle(_) | Fault::File { .. } => return fault,
         Fault::Memory | Fault::Tool(ToolFault::Memory) => return Fault::Memory,

@@ -33,7 +33,7 @@ pub use cm_hux_json::{Object, ToValue, Value, event_object, line_of, signature_r
 pub use cm_match::{Choices, link_by};
 pub use cm_stubs::{Component, caller, provider_for};
 pub use cm_tool_commands::{
-    Asked, Checked, Disk, Fault as ToolFault, FileFault, Files, LIMIT, Linked, Outcome, Unfit,
+    Asked, Checked, Disk, Fault as ToolFault, FileFault, Files, LIMIT, Linked, Outcome,
     UnfitReason, Usage, checked_of, conform_component, read_file, signature, text_of, words_of,
     world_of,
 };

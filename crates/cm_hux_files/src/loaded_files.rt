@@ -4,14 +4,14 @@ use crate::choosing::choosing_text;
 use crate::fault::Fault;
 use crate::fronts::stub_of;
 use crate::groups::{Group, add_places, fault_inside, group_of, is_seen};
-use crate::loading::{Loaded, kept, load_bytes, load_part, of_file, read_bytes};
+use crate::loading::{Loaded, kept, load_bytes, load_part, not_made, of_file, read_bytes};
 use crate::part_words::part_words;
 use crate::serve_words::{FileName, refuse_words};
 use crate::served::Served;
 use crate::serving::served_by;
 use crate::taking::{Arguments, arguments_of, bundle_in, is_bundle, part_of, read_bundle};
 use cm_binary_model::Component;
-use cm_bundle::{Bundle, PartName, part_names};
+use cm_bundle::{Bundle, ImportGroup, PartName, part_names};
 use cm_hux_words::ServeWords;
 use cm_match::link_by;
 use cm_match_model::{Choices, LinkReason};
@@ -42,21 +42,16 @@ pub struct LoadedFiles<'a> {
 
 /// Reads and checks the file of this name: a component has to be valid, and a bundle to be that of
 /// its parts, each valid, as its arguments link them.
-pub fn check_file<'a, F: Files>(
-    alloc: Global,
-    files: &mut F,
-    name: &'a str,
-) -> Result<(), Fault<'a>> {
+pub fn check_file<F: Files>(alloc: Global, files: &mut F, name: &str) -> Result<(), Fault> {
     let bytes = read_bytes(alloc, files, name)?;
     if is_bundle(alloc, &bytes)? {
         return check_bundle(alloc, name, bytes);
     }
     let loaded = load_bytes(alloc, name, bytes)?;
-    let _checked = loaded.check(alloc)?;
-    Ok(())
+    not_made(loaded.check(alloc))
 }
 
-fn check_bundle<'a>(alloc: Global, name: &'a str, bytes: Vec<u8>) -> Result<(), Fault<'a>> {
+fn check_bundle(alloc: Global, name: &str, bytes: Vec<u8>) -> Result<(), Fault> {
     match LoadedFiles::of_bundle(alloc, name, bytes) {
         Ok(loaded) => match loaded.inside(alloc) {
             Ok(_) => Ok(()),
@@ -74,7 +69,7 @@ pub fn load_files<'a, F: Files>(
     alloc: Global,
     files: &mut F,
     names: &[&'a str],
-) -> (LoadedFiles<'a>, Option<Fault<'a>>) {
+) -> (LoadedFiles<'a>, Option<Fault>) {
     let mut loaded = LoadedFiles::none(alloc, names.len());
     let read = match names {
         [name] => loaded.load_alone(alloc, files, name),
@@ -104,7 +99,7 @@ impl<'a> LoadedFiles<'a> {
         alloc: Global,
         name: &'a str,
         bytes: Vec<u8>,
-    ) -> Result<LoadedFiles<'a>, Fault<'a>> {
+    ) -> Result<LoadedFiles<'a>, Fault> {
         let mut loaded = LoadedFiles::none(alloc, 0);
         match loaded.load_parts(alloc, name, &bytes) {
             Ok(_) => {
@@ -120,7 +115,7 @@ impl<'a> LoadedFiles<'a> {
         alloc: Global,
         files: &mut F,
         names: &[&'a str],
-    ) -> Result<(), Fault<'a>> {
+    ) -> Result<(), Fault> {
         for name in names {
             if self.loaded.len() > MAX_COMPONENTS {
                 break;
@@ -136,7 +131,7 @@ impl<'a> LoadedFiles<'a> {
         alloc: Global,
         files: &mut F,
         name: &'a str,
-    ) -> Result<(), Fault<'a>> {
+    ) -> Result<(), Fault> {
         let bytes = read_bytes(alloc, files, name)?;
         if is_bundle(alloc, &bytes)? {
             return self.load_bundle(alloc, name, bytes);
@@ -146,12 +141,7 @@ impl<'a> LoadedFiles<'a> {
     }
 
     /// Loads the parts of a bundle, which is linked by itself before.
-    fn load_bundle(
-        &mut self,
-        alloc: Global,
-        name: &'a str,
-        bytes: Vec<u8>,
-    ) -> Result<(), Fault<'a>> {
+    fn load_bundle(&mut self, alloc: Global, name: &'a str, bytes: Vec<u8>) -> Result<(), Fault> {
         match LoadedFiles::of_bundle(alloc, name, bytes) {
             Ok(alone) => match alone.inside(alloc) {
                 Ok(inside) => Ok(self.add_parts(alone, inside)?),
@@ -163,20 +153,33 @@ impl<'a> LoadedFiles<'a> {
 
     /// How the parts of the bundle are linked that these are: so they have to link, behind a
     /// component that exports what it imports, where it is open.
-    pub(crate) fn inside(&self, alloc: Global) -> Result<Arguments, Fault<'a>> {
+    pub(crate) fn inside(&self, alloc: Global) -> Result<Arguments, Fault> {
         let components = self.check(alloc, None)?;
         let Some((name, bytes)) = &self.bundle else {
             return Err(Fault::Memory);
         };
         let bundle = read_bundle(alloc, name, bytes)?;
         let arguments = self.arguments(alloc, name, &bundle, &components)?;
-        if bundle.front.is_empty() {
-            self.link_served(alloc, components, &arguments.served(alloc)?)?;
-        } else {
-            let stub = stub_of(alloc, name, &bundle.front)?;
-            self.link_inside(alloc, &stub, components, &arguments)?;
-        }
+        self.link_parts(alloc, name, &bundle.front, components, &arguments)?;
         Ok(arguments)
+    }
+
+    /// Sees to it that the parts of the bundle of this name link so, behind a component that
+    /// exports what stands in front of them.
+    fn link_parts(
+        &self,
+        alloc: Global,
+        name: &str,
+        front: &[ImportGroup<'_>],
+        components: Vec<Checked<'_>>,
+        arguments: &Arguments,
+    ) -> Result<(), Fault> {
+        if front.is_empty() {
+            let served = arguments.served(alloc)?;
+            return not_made(self.link_served(alloc, components, &served));
+        }
+        let stub = stub_of(alloc, name, front)?;
+        self.link_inside(alloc, &stub, components, arguments)
     }
 
     /// Adds the parts of a bundle, which are linked so.
@@ -203,7 +206,7 @@ impl<'a> LoadedFiles<'a> {
         alloc: Global,
         files: &mut F,
         name: &'a str,
-    ) -> Result<(), Fault<'a>> {
+    ) -> Result<(), Fault> {
         let bytes = read_bytes(alloc, files, name)?;
         if self.load_parts(alloc, name, &bytes)? {
             self.bundle = Some((name, bytes));
@@ -215,12 +218,7 @@ impl<'a> LoadedFiles<'a> {
 
     /// Loads the parts of a bundle of this name, and answers whether these bytes are one. Of more
     /// parts than a set may have one more than that is loaded.
-    fn load_parts(
-        &mut self,
-        alloc: Global,
-        name: &'a str,
-        bytes: &[u8],
-    ) -> Result<bool, Fault<'a>> {
+    fn load_parts(&mut self, alloc: Global, name: &'a str, bytes: &[u8]) -> Result<bool, Fault> {
         let Some(bundle) = bundle_in(alloc, bytes)? else {
             return Ok(false);
         };
@@ -290,7 +288,7 @@ impl<'a> LoadedFiles<'a> {
 
     /// What the parts of a bundle of these files are called: as their components are, or as the
     /// bundle whose parts they all are has it.
-    pub fn part_names(&self, alloc: Global) -> Result<Vec<PartName<'_>>, Fault<'a>> {
+    pub fn part_names(&self, alloc: Global) -> Result<Vec<PartName<'_>>, Fault> {
         match &self.bundle {
             Some((name, bytes)) => Ok(part_names(alloc, &read_bundle(alloc, name, bytes)?)?),
             None => Ok(self.called(alloc)?),
@@ -324,8 +322,8 @@ impl<'a> LoadedFiles<'a> {
     pub fn check<'b>(
         &'b self,
         alloc: Global,
-        unread: Option<Fault<'a>>,
-    ) -> Result<Vec<Checked<'b>>, Fault<'a>> {
+        unread: Option<Fault>,
+    ) -> Result<Vec<Checked<'b>>, Fault> {
         let mut components = Vec::with_capacity(alloc, self.loaded.len())?;
         for file in &self.loaded {
             components.push(file.check(alloc)?)?;
@@ -337,17 +335,13 @@ impl<'a> LoadedFiles<'a> {
     }
 
     /// The linked set of the components, which borrows them: checked in order, and then linked.
-    pub fn link<'b>(
-        &'b self,
-        alloc: Global,
-        unread: Option<Fault<'a>>,
-    ) -> Result<Linked<'b>, Fault<'a>> {
+    pub fn link<'b>(&'b self, alloc: Global, unread: Option<Fault>) -> Result<Linked<'b>, Fault> {
         self.link_checked(alloc, self.check(alloc, unread)?)
     }
 
     /// What serves the imports of the components: by a bundle, or by words. `Refused` comes where
     /// there is a word for the files of a bundle.
-    pub fn served(&self, alloc: Global, components: &[Checked<'_>]) -> Result<Served, Fault<'a>> {
+    pub fn served(&self, alloc: Global, components: &[Checked<'_>]) -> Result<Served, Fault> {
         let Some((name, bytes)) = &self.bundle else {
             let names = self.names(alloc)?;
             let served = served_by(alloc, &names, components, &self.groups, &self.serve)?;
@@ -366,13 +360,13 @@ impl<'a> LoadedFiles<'a> {
         name: &'a str,
         bundle: &Bundle<'_>,
         components: &[Checked<'_>],
-    ) -> Result<Arguments, Fault<'a>> {
+    ) -> Result<Arguments, Fault> {
         let loaded = self.loaded.as_slice();
         Ok(arguments_of(alloc, name, bundle, loaded, components)?)
     }
 
     /// What is chosen of the links of the components, as `served` has it.
-    pub fn choices(&self, alloc: Global, components: &[Checked<'_>]) -> Result<Choices, Fault<'a>> {
+    pub fn choices(&self, alloc: Global, components: &[Checked<'_>]) -> Result<Choices, Fault> {
         let served = self.served(alloc, components)?;
         Ok(self.choices_by(alloc, &served)?)
     }
@@ -411,7 +405,7 @@ impl<'a> LoadedFiles<'a> {
         &'b self,
         alloc: Global,
         components: Vec<Checked<'b>>,
-    ) -> Result<Linked<'b>, Fault<'a>> {
+    ) -> Result<Linked<'b>, Fault> {
         let served = self.served(alloc, &components)?;
         self.link_served(alloc, components, &served)
     }
@@ -422,7 +416,7 @@ impl<'a> LoadedFiles<'a> {
         alloc: Global,
         components: Vec<Checked<'b>>,
         served: &Served,
-    ) -> Result<Linked<'b>, Fault<'a>> {
+    ) -> Result<Linked<'b>, Fault> {
         let choices = self.choices_by(alloc, served)?;
         match link_by(alloc, components, choices) {
             Ok(linked) => Ok(linked),
@@ -431,7 +425,7 @@ impl<'a> LoadedFiles<'a> {
     }
 
     /// The fault of components that do not link.
-    pub(crate) fn not_linked(&self, alloc: Global, fault: LinkFault) -> Fault<'a> {
+    pub(crate) fn not_linked(&self, alloc: Global, fault: LinkFault) -> Fault {
         Fault::Tool(ToolFault::Link {
             fault,
             count: self.count,
@@ -440,7 +434,7 @@ impl<'a> LoadedFiles<'a> {
     }
 
     /// What the components have where they do not link, in words.
-    fn tail_of(&self, alloc: Global, fault: LinkFault) -> Result<String, Fault<'a>> {
+    fn tail_of(&self, alloc: Global, fault: LinkFault) -> Result<String, Fault> {
         let mut files = Vec::with_capacity(alloc, self.loaded.len())?;
         for (number, file) in self.loaded.iter().enumerate() {
             files.push((
@@ -462,7 +456,7 @@ impl<'a> LoadedFiles<'a> {
         number: usize,
         file: &Loaded<'a>,
         importer: usize,
-    ) -> Result<Signature, Fault<'a>> {
+    ) -> Result<Signature, Fault> {
         if number != importer && self.is_hidden(number, importer) {
             return nothing(alloc);
         }
@@ -479,7 +473,7 @@ impl<'a> LoadedFiles<'a> {
     }
 
     /// The words that choose what serves the import of a fault.
-    fn choosing(&self, alloc: Global, fault: LinkFault) -> Result<String, Fault<'a>> {
+    fn choosing(&self, alloc: Global, fault: LinkFault) -> Result<String, Fault> {
         let names = self.names(alloc)?;
         let importer = fault.component;
         if let Some(group) = group_of(&self.groups, importer) {
@@ -500,12 +494,12 @@ impl<'a> LoadedFiles<'a> {
 }
 
 /// The signature of a component that imports and exports nothing.
-fn nothing<'a>(alloc: Global) -> Result<Signature, Fault<'a>> {
+fn nothing(alloc: Global) -> Result<Signature, Fault> {
     let Ok(component) = Component::new(Vec::new(alloc)) else {
         return Err(Fault::Memory);
     };
     match checked_of(alloc, "", &component) {
         Ok(checked) => Ok(signature(alloc, checked)?),
-        Err(bad) => Err(of_file(bad, String::new(alloc))),
+        Err(bad) => Err(of_file(alloc, bad)),
     }
 }

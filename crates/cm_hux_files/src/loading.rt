@@ -9,9 +9,7 @@ ghost use Rattle.cm_shims.specs.Fitting.{AllHold};
 use crate::fault::{Fault, WhyNoFile};
 use crate::serve_words::component_name;
 use cm_shims::{Place, ShimFault, Shimmed, fits, read};
-use cm_tool_commands::{
-    BadFile, Checked, Fault as ToolFault, FileReason, Files, ValidFault, checked_of, read_file,
-};
+use cm_tool_commands::{BadFile, Checked, FileReason, Files, ValidFault, checked_of, read_file};
 use cm_tool_help_texts::{bytes_help, valid_help};
 use std::alloc::Global;
 
@@ -26,6 +24,14 @@ pub struct Loaded<'a> {
     pub(crate) part: Option<String>,
 }
 
+/// Why something is not made; what is made is not kept.
+pub(crate) fn not_made<T: Drop>(made: Result<T, Fault>) -> Result<(), Fault> {
+    match made {
+        Ok(_) => Ok(()),
+        Err(fault) => Err(fault),
+    }
+}
+
 /// A tail, or none where there is no memory for it.
 pub fn kept<E: Drop>(alloc: Global, tail: Result<String, E>) -> String {
     match tail {
@@ -34,13 +40,18 @@ pub fn kept<E: Drop>(alloc: Global, tail: Result<String, E>) -> String {
     }
 }
 
-/// The fault of a file, with a tail.
-pub fn of_file<'a>(bad: BadFile<'a>, tail: String) -> Fault<'a> {
-    Fault::Tool(ToolFault::File { bad, tail })
+/// The fault of a file; `Memory` where there is none for its name.
+pub fn of_file(alloc: Global, bad: BadFile<'_>) -> Fault {
+    no_file(
+        alloc,
+        bad.name,
+        WhyNoFile::Reason(bad.reason),
+        String::new(alloc),
+    )
 }
 
 /// The fault of a component file, or of a part of a bundle that is called so, with a tail.
-fn no_file(alloc: Global, name: &str, why: WhyNoFile, tail: String) -> Fault<'static> {
+fn no_file(alloc: Global, name: &str, why: WhyNoFile, tail: String) -> Fault {
     match String::from_str(alloc, name) {
         Ok(name) => Fault::File { name, why, tail },
         Err(_) => Fault::Memory,
@@ -48,7 +59,7 @@ fn no_file(alloc: Global, name: &str, why: WhyNoFile, tail: String) -> Fault<'st
 }
 
 /// The fault of bytes that a file or a part of this name has: what stands there.
-fn not_read(alloc: Global, name: &str, bytes: &[u8], fault: ShimFault) -> Fault<'static> {
+fn not_read(alloc: Global, name: &str, bytes: &[u8], fault: ShimFault) -> Fault {
     match fault {
         ShimFault::Decode(fault) => {
             let reason = FileReason::NoComponent {
@@ -68,14 +79,10 @@ fn not_read(alloc: Global, name: &str, bytes: &[u8], fault: ShimFault) -> Fault<
 }
 
 /// The bytes of the file of this name.
-pub fn read_bytes<'a, F: Files>(
-    alloc: Global,
-    files: &mut F,
-    name: &'a str,
-) -> Result<Vec<u8>, Fault<'a>> {
+pub fn read_bytes<F: Files>(alloc: Global, files: &mut F, name: &str) -> Result<Vec<u8>, Fault> {
     match read_file(alloc, files, name) {
         Ok(bytes) => Ok(bytes),
-        Err(bad) => Err(of_file(bad, String::new(alloc))),
+        Err(bad) => Err(of_file(alloc, bad)),
     }
 }
 
@@ -85,7 +92,7 @@ pub fn load_file<'a, F: Files>(
     alloc: Global,
     files: &mut F,
     name: &'a str,
-) -> Result<Loaded<'a>, Fault<'a>>
+) -> Result<Loaded<'a>, Fault>
     ensures name { IfOk result (λ l. l.name ≡ name.entry) }
     ensures read { IfOk result (λ l. IsReadAs l.bytes.items (outcome (Ok l.shimmed))) }
 {
@@ -93,7 +100,7 @@ pub fn load_file<'a, F: Files>(
 }
 
 /// What a file with these bytes stands for, which may have shims.
-pub fn load_bytes<'a>(alloc: Global, name: &'a str, bytes: Vec<u8>) -> Result<Loaded<'a>, Fault<'a>>
+pub fn load_bytes<'a>(alloc: Global, name: &'a str, bytes: Vec<u8>) -> Result<Loaded<'a>, Fault>
     ensures name { IfOk result (λ l. l.name ≡ name.entry) }
     ensures read { IfOk result (λ l. IsReadAs l.bytes.items (outcome (Ok l.shimmed))) }
 {
@@ -114,7 +121,7 @@ pub(crate) fn load_part<'a>(
     name: &'a str,
     part: String,
     bytes: Vec<u8>,
-) -> Result<Loaded<'a>, Fault<'a>> {
+) -> Result<Loaded<'a>, Fault> {
     match read(alloc, bytes.as_slice()) {
         Ok(shimmed) => Ok(Loaded {
             name,
@@ -128,7 +135,7 @@ pub(crate) fn load_part<'a>(
 
 impl<'a> Loaded<'a> {
     /// The file as a valid component, of which all holds that its shims want.
-    pub fn check<'b>(&'b self, alloc: Global) -> Result<Checked<'b>, Fault<'a>>
+    pub fn check<'b>(&'b self, alloc: Global) -> Result<Checked<'b>, Fault>
         ensures held { IfOk result (λ c. sections_in c ≡ self.now.shimmed.component) }
         ensures valid { IfOk result (λ c. IsValid self.now.shimmed.component) }
         ensures fits { IfOk result (λ c. AllHold (spaces_in c) self.now.shimmed.wants.items) }
@@ -164,7 +171,7 @@ impl<'a> Loaded<'a> {
     }
 
     /// The fault of a component that is not valid, at its place in the file.
-    fn not_valid(&self, alloc: Global, reason: FileReason) -> Fault<'static> {
+    fn not_valid(&self, alloc: Global, reason: FileReason) -> Fault {
         let FileReason::NotValid(fault) = reason else {
             let why = WhyNoFile::Reason(reason);
             return no_file(alloc, self.word(), why, String::new(alloc));

@@ -23,7 +23,7 @@ pub fn made(
     files: &[&[u8]],
     exporter: usize,
     names: &[PartName<'_>],
-) -> Result<Vec<u8>, Trouble<'static>> {
+) -> Result<Vec<u8>, Trouble> {
     refuse_type_imports(alloc, files)?;
     match bundle(alloc, linked, front, files, exporter, names) {
         Ok(bytes) => Ok(bytes),
@@ -32,7 +32,7 @@ pub fn made(
     }
 }
 
-fn refuse_type_imports(alloc: Global, files: &[&[u8]]) -> Result<(), Trouble<'static>> {
+fn refuse_type_imports(alloc: Global, files: &[&[u8]]) -> Result<(), Trouble> {
     for (component, file) in files.iter().enumerate() {
         if imports_type(alloc, file)? {
             return Err(Trouble::ImportsType { component });

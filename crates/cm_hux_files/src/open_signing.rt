@@ -1,13 +1,13 @@
 //! What open bundles import and export.
 
 use crate::fault::Fault;
-use crate::fronts::{signature_of_front, valid_stub};
+use crate::fronts::{caller_of, signature_of_front, valid_stub};
 use crate::gathered::gathered;
 use crate::loading::Loaded;
 use crate::taking::Given;
 use cm_bundle::ImportGroup;
 use cm_names::TextTable;
-use cm_stubs::{caller, provider};
+use cm_stubs::{Component, provider};
 use cm_tool_commands::{Checked, signature};
 use cm_tool_help_texts::Escaped;
 use cm_types::ExternName;
@@ -20,32 +20,48 @@ use std::alloc::{AllocError, Global};
 /// the part exports under names of their own. `Refused` comes where an import of the bundle has
 /// such a name, and where two of them are versions of one interface that are compatible: no bundle
 /// that `hux` writes has such imports, but for a file that imports such a name.
-pub(crate) fn open_signature<'a>(
+pub(crate) fn open_signature(
     alloc: Global,
-    name: &'a str,
+    name: &str,
     front: &[ImportGroup<'_>],
-    part: &Loaded<'a>,
+    part: &Loaded<'_>,
     given: &[Given],
-) -> Result<Signature, Fault<'a>> {
+) -> Result<Signature, Fault> {
     let exported = signature(alloc, part.check(alloc)?)?;
     let exports = externs_in(exported.exports());
     let asked = asked_of(alloc, part.check(alloc)?, given, exports)?;
+    whole_signature(alloc, name, front, asked, exports)
+}
+
+/// What the open bundle of this name imports, and these exports: what is asked of its part.
+fn whole_signature(
+    alloc: Global,
+    name: &str,
+    front: &[ImportGroup<'_>],
+    asked: Signature,
+    exports: &[Extern],
+) -> Result<Signature, Fault> {
     let imported = signature_of_front(alloc, name, front)?;
     let names = names_of(alloc, externs_in(imported.imports()))?;
     if has_own_name(&names) {
         return Err(other_imports(alloc, name));
     }
-    let stub = provider(alloc, &[imported, asked])?;
-    let stub = caller(alloc, &signature(alloc, valid_stub(alloc, &stub)?)?)?;
+    let stub = caller_of_both(alloc, &[imported, asked])?;
     let whole = split(alloc, valid_stub(alloc, &stub)?, &names, exports)?;
-    if externs_in(whole.imports()).len() != names.len() {
-        return Err(other_imports(alloc, name));
+    if externs_in(whole.imports()).len() == names.len() {
+        Ok(whole)
+    } else {
+        Err(other_imports(alloc, name))
     }
-    Ok(whole)
+}
+
+/// A component that imports all that these signatures import.
+fn caller_of_both(alloc: Global, signatures: &[Signature]) -> Result<Component, Fault> {
+    caller_of(alloc, &provider(alloc, signatures)?)
 }
 
 /// The fault of an open bundle with imports that are not told apart here.
-fn other_imports(alloc: Global, name: &str) -> Fault<'static> {
+fn other_imports(alloc: Global, name: &str) -> Fault {
     let name = Escaped(name);
     match format!(in alloc; "{name}: it is an open bundle with imports that hux does not write") {
         Ok(text) => Fault::Refused(text),
@@ -75,7 +91,7 @@ fn asked_of(
     part: Checked<'_>,
     given: &[Given],
     exports: &[Extern],
-) -> Result<Signature, Fault<'static>> {
+) -> Result<Signature, Fault> {
     let externs = part.into_externs();
     let mut asked = externs.imports;
     for (number, import) in asked.iter_mut().enumerate() {
@@ -151,7 +167,7 @@ fn split(
     whole: Checked<'_>,
     names: &[ExternName],
     exports: &[Extern],
-) -> Result<Signature, Fault<'static>> {
+) -> Result<Signature, Fault> {
     let externs = whole.into_externs();
     let mut listed = Listed::of(alloc, externs.imports)?;
     let mut imported = Vec::with_capacity(alloc, names.len())?;

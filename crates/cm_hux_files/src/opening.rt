@@ -4,6 +4,7 @@ use crate::fault::Fault;
 use crate::fronts::{Front, stub_of, valid_stub};
 use crate::groups::{OWN_PLACE, add_places};
 use crate::loaded_files::LoadedFiles;
+use crate::loading::not_made;
 use crate::providers::Provider;
 use crate::served::Served;
 use crate::signing::imports_alone;
@@ -21,7 +22,7 @@ impl<'a> LoadedFiles<'a> {
     pub(crate) fn open_bundle(
         &self,
         alloc: Global,
-    ) -> Result<Option<(&'a str, Bundle<'_>)>, Fault<'a>> {
+    ) -> Result<Option<(&'a str, Bundle<'_>)>, Fault> {
         let Some((name, bytes)) = self.bundle() else {
             return Ok(None);
         };
@@ -34,7 +35,7 @@ impl<'a> LoadedFiles<'a> {
 
     /// A component that exports what the open bundle imports whose parts the components are;
     /// nothing where they are none's.
-    pub fn open_provider(&self, alloc: Global) -> Result<Option<Component>, Fault<'a>> {
+    pub fn open_provider(&self, alloc: Global) -> Result<Option<Component>, Fault> {
         match self.open_bundle(alloc)? {
             Some((name, bundle)) => Ok(Some(stub_of(alloc, name, &bundle.front)?)),
             None => Ok(None),
@@ -49,21 +50,21 @@ impl<'a> LoadedFiles<'a> {
 
     /// A component that exports what nothing serves of what the components import: behind it they
     /// link, as words and bundles say.
-    pub fn stub(&self, alloc: Global) -> Result<Component, Fault<'a>> {
+    pub fn stub(&self, alloc: Global) -> Result<Component, Fault> {
         let components = self.check(alloc, None)?;
         let served = self.served(alloc, &components)?;
         let front = match self.front(alloc, &served)? {
             Some(front) => front,
             None => Front::of(alloc, &[])?,
         };
-        self.link_behind(alloc, &front, components, &served)?;
+        not_made(self.link_behind(alloc, &front, components, &served))?;
         let Front { stub, .. } = front;
         Ok(stub)
     }
 
     /// What imports what nothing serves of what the components import; nothing where all is served.
     /// It counts as a component: `Refused` comes where there is none left for it.
-    pub fn front(&self, alloc: Global, served: &Served) -> Result<Option<Front>, Fault<'a>> {
+    pub fn front(&self, alloc: Global, served: &Served) -> Result<Option<Front>, Fault> {
         let signatures = self.open_signatures(alloc, served)?;
         let count = self.files().len();
         if signatures.is_empty() || count > MAX_COMPONENTS {
@@ -76,7 +77,7 @@ impl<'a> LoadedFiles<'a> {
     }
 
     /// Of each component that has imports that nothing serves these, in order.
-    fn open_signatures(&self, alloc: Global, served: &Served) -> Result<Vec<Signature>, Fault<'a>> {
+    fn open_signatures(&self, alloc: Global, served: &Served) -> Result<Vec<Signature>, Fault> {
         let mut signatures = Vec::new(alloc);
         for (file, row) in self.files().iter().zip(&served.rows) {
             if row.contains(&Candidate::None) {
@@ -94,7 +95,7 @@ impl<'a> LoadedFiles<'a> {
         front: &'b Front,
         components: Vec<Checked<'b>>,
         served: &Served,
-    ) -> Result<Linked<'b>, Fault<'a>> {
+    ) -> Result<Linked<'b>, Fault> {
         let stub = valid_stub(alloc, &front.stub)?;
         let exports = Provider::new(alloc, 0, stub.exports())?;
         let served = served.behind(alloc, &exports, &components)?;
@@ -103,18 +104,17 @@ impl<'a> LoadedFiles<'a> {
 
     /// Sees to it that the components of a bundle link as its arguments say, behind what exports
     /// what it imports.
-    pub(crate) fn link_inside<'b>(
+    pub(crate) fn link_inside(
         &self,
         alloc: Global,
-        stub: &'b Component,
-        components: Vec<Checked<'b>>,
+        stub: &Component,
+        components: Vec<Checked<'_>>,
         arguments: &Arguments,
-    ) -> Result<(), Fault<'a>> {
+    ) -> Result<(), Fault> {
         let stub = valid_stub(alloc, stub)?;
         let exports = Provider::new(alloc, 0, stub.exports())?;
         let served = arguments.served_behind(alloc, &exports)?;
-        self.link_over(alloc, stub, components, &served)?;
-        Ok(())
+        not_made(self.link_over(alloc, stub, components, &served))
     }
 
     /// The linked set of a stub and the components, whose imports these exports serve.
@@ -124,9 +124,9 @@ impl<'a> LoadedFiles<'a> {
         stub: Checked<'b>,
         components: Vec<Checked<'b>>,
         served: &Served,
-    ) -> Result<Linked<'b>, Fault<'a>> {
-        let choices = self.choices_over(alloc, served)?;
-        match link_by(alloc, behind(alloc, stub, components)?, choices) {
+    ) -> Result<Linked<'b>, Fault> {
+        let components = behind(alloc, stub, components)?;
+        match link_by(alloc, components, self.choices_over(alloc, served)?) {
             Ok(linked) => Ok(linked),
             Err(fault) => Err(self.not_linked(alloc, without_stub(fault))),
         }
@@ -166,7 +166,7 @@ fn without_stub(fault: LinkFault) -> LinkFault {
 }
 
 /// The fault of as many components as a set may have, of which some imports are open.
-fn too_many(alloc: Global) -> Fault<'static> {
+fn too_many(alloc: Global) -> Fault {
     let text = "TooMany: what nothing serves counts as a component: expected 1 to 15 others, \
                 found 16";
     match String::from_str(alloc, text) {

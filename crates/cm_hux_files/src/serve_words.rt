@@ -67,7 +67,7 @@ fn called(files: &[FileName<'_>], word: &str) -> NamedFile {
 }
 
 /// The fault of a word that says nothing.
-pub(crate) fn no_word(alloc: Global, word: &str, why: &str) -> Fault<'static> {
+pub(crate) fn no_word(alloc: Global, word: &str, why: &str) -> Fault {
     match format!(in alloc; "error: --serve {word}: {why}") {
         Ok(text) => Fault::Usage(text),
         Err(_) => Fault::Memory,
@@ -75,7 +75,7 @@ pub(crate) fn no_word(alloc: Global, word: &str, why: &str) -> Fault<'static> {
 }
 
 /// The fault of a word that serves nothing.
-pub(crate) fn serves_nothing(alloc: Global, word: &str, why: &str) -> Fault<'static> {
+pub(crate) fn serves_nothing(alloc: Global, word: &str, why: &str) -> Fault {
     let word = Escaped(word);
     match format!(in alloc; "--serve {word}: {why}") {
         Ok(text) => Fault::Refused(text),
@@ -85,7 +85,7 @@ pub(crate) fn serves_nothing(alloc: Global, word: &str, why: &str) -> Fault<'sta
 
 /// Refuses the words of a command for the files of a bundle, which its arguments link: the first
 /// of them serves nothing.
-pub(crate) fn refuse_words(alloc: Global, words: &[&str]) -> Result<(), Fault<'static>> {
+pub(crate) fn refuse_words(alloc: Global, words: &[&str]) -> Result<(), Fault> {
     match words.first() {
         Some(word) => {
             let why = "a bundle is linked by its own arguments";
@@ -104,7 +104,7 @@ fn provider_in<'a>(
     files: &[FileName<'_>],
     word: &str,
     named: &'a str,
-) -> Result<(usize, Option<&'a str>), Fault<'static>> {
+) -> Result<(usize, Option<&'a str>), Fault> {
     match called(files, named) {
         NamedFile::One(provider) => return Ok((provider, None)),
         NamedFile::Several => return Err(no_word(alloc, word, SEVERAL)),
@@ -126,7 +126,7 @@ fn import_in<'a>(
     files: &[FileName<'_>],
     word: &str,
     named: &'a str,
-) -> Result<(Option<usize>, &'a str), Fault<'static>> {
+) -> Result<(Option<usize>, &'a str), Fault> {
     let Some((importer, import)) = named.split_once('/') else {
         return Ok((None, named));
     };
@@ -143,7 +143,7 @@ pub(crate) fn read_word<'a>(
     alloc: Global,
     files: &[FileName<'_>],
     word: &'a str,
-) -> Result<ServeWord<'a>, Fault<'static>> {
+) -> Result<ServeWord<'a>, Fault> {
     let Some((import, provider)) = word.split_once('=') else {
         return Err(no_word(
             alloc,

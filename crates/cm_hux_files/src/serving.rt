@@ -28,7 +28,7 @@ pub(crate) fn served_by(
     components: &[Checked<'_>],
     groups: &[Group<'_>],
     serve: &ServeWords<'_>,
-) -> Result<Served, Fault<'static>> {
+) -> Result<Served, Fault> {
     let providers = seen_providers(alloc, components, groups)?;
     let mut words = Vec::with_capacity(alloc, serve.words.len())?;
     for word in &serve.words {
@@ -99,7 +99,7 @@ impl Chooser<'_, '_> {
         &mut self,
         components: &[Checked<'_>],
         groups: &[Group<'_>],
-    ) -> Result<Vec<Vec<Candidate>>, Fault<'static>> {
+    ) -> Result<Vec<Vec<Candidate>>, Fault> {
         let mut rows = Vec::with_capacity(self.alloc, components.len())?;
         for (number, component) in components.iter().enumerate() {
             rows.push(match group_of(groups, number) {
@@ -111,11 +111,7 @@ impl Chooser<'_, '_> {
     }
 
     /// What serves the imports of a component that is no part of a bundle.
-    fn row(
-        &mut self,
-        component: usize,
-        imports: &[Extern],
-    ) -> Result<Vec<Candidate>, Fault<'static>> {
+    fn row(&mut self, component: usize, imports: &[Extern]) -> Result<Vec<Candidate>, Fault> {
         let importer = Importer::file(component);
         let mut row = Vec::with_capacity(self.alloc, imports.len())?;
         for import in imports {
@@ -125,11 +121,7 @@ impl Chooser<'_, '_> {
     }
 
     /// What serves the imports of a part of a bundle: as it says, and before it what it imports.
-    fn row_inside(
-        &mut self,
-        component: usize,
-        group: &Group<'_>,
-    ) -> Result<Vec<Candidate>, Fault<'static>> {
+    fn row_inside(&mut self, component: usize, group: &Group<'_>) -> Result<Vec<Candidate>, Fault> {
         let importer = Importer::part(component, group);
         let given = group.given_to(component).unwrap_or(&[]);
         let mut row = Vec::with_capacity(self.alloc, given.len())?;
@@ -146,11 +138,7 @@ impl Chooser<'_, '_> {
     }
 
     /// What serves an import: by the word that is of it, or the nearest, or the only one.
-    fn served(
-        &mut self,
-        importer: Importer,
-        import: &ExternName,
-    ) -> Result<Candidate, Fault<'static>> {
+    fn served(&mut self, importer: Importer, import: &ExternName) -> Result<Candidate, Fault> {
         match self.word_of(importer, import.as_str())? {
             Some(number) => self.served_by(number, importer, import),
             None if self.nearest => Ok(self.nearest(importer.first, import)?),
@@ -159,7 +147,7 @@ impl Chooser<'_, '_> {
     }
 
     /// The number of the word that is of an import.
-    fn word_of(&self, importer: Importer, import: &str) -> Result<Option<usize>, Fault<'static>> {
+    fn word_of(&self, importer: Importer, import: &str) -> Result<Option<usize>, Fault> {
         let mut own = None;
         let mut found: Option<(usize, usize)> = None;
         for (number, word) in self.words.iter().enumerate() {
@@ -185,7 +173,7 @@ impl Chooser<'_, '_> {
         number: usize,
         importer: Importer,
         import: &ExternName,
-    ) -> Result<Candidate, Fault<'static>> {
+    ) -> Result<Candidate, Fault> {
         let Some(word) = self.words.get(number).copied() else {
             return Ok(Candidate::None);
         };
@@ -247,7 +235,7 @@ impl Chooser<'_, '_> {
     }
 
     /// Refuses a word that serves nothing.
-    fn refuse_unused(&self) -> Result<(), Fault<'static>> {
+    fn refuse_unused(&self) -> Result<(), Fault> {
         for (word, used) in self.words.iter().zip(&self.used) {
             if !*used {
                 let why = "no import of this name stands behind its provider";

@@ -15,11 +15,7 @@ use std::alloc::{AllocError, Global};
 /// What the component of a file of this name, whose bytes these are, imports and exports. A bundle
 /// has to be that of its parts, linked as its arguments say: it imports nothing, or what stands in
 /// front of them, and exports what its exporter does.
-pub fn signature_in<'a>(
-    alloc: Global,
-    name: &'a str,
-    bytes: Vec<u8>,
-) -> Result<Signature, Fault<'a>> {
+pub fn signature_in(alloc: Global, name: &str, bytes: Vec<u8>) -> Result<Signature, Fault> {
     if is_bundle(alloc, &bytes)? {
         return bundle_signature(alloc, name, bytes);
     }
@@ -27,11 +23,7 @@ pub fn signature_in<'a>(
     Ok(signature(alloc, loaded.check(alloc)?)?)
 }
 
-fn bundle_signature<'a>(
-    alloc: Global,
-    name: &'a str,
-    bytes: Vec<u8>,
-) -> Result<Signature, Fault<'a>> {
+fn bundle_signature(alloc: Global, name: &str, bytes: Vec<u8>) -> Result<Signature, Fault> {
     let loaded = LoadedFiles::of_bundle(alloc, name, bytes)?;
     let arguments = loaded.inside(alloc)?;
     let Some(part) = loaded.files().get(arguments.exporter) else {
@@ -47,12 +39,12 @@ fn bundle_signature<'a>(
 /// The signature of a component that exports what this one does, and imports nothing: the exports
 /// are the last imports of a component that stands in for a caller, behind those that it needs for
 /// resources of imports.
-fn exports_alone<'a>(alloc: Global, checked: Checked<'_>) -> Result<Signature, Fault<'a>> {
+fn exports_alone(alloc: Global, checked: Checked<'_>) -> Result<Signature, Fault> {
     let count = checked.exports().len();
     let caller = caller(alloc, &signature(alloc, checked)?)?;
     match checked_of(alloc, "", &caller) {
         Ok(checked) => Ok(last_imports(alloc, checked, count)?),
-        Err(bad) => Err(of_file(bad, String::new(alloc))),
+        Err(bad) => Err(of_file(alloc, bad)),
     }
 }
 
@@ -62,7 +54,7 @@ pub(crate) fn imports_alone(
     alloc: Global,
     checked: Checked<'_>,
     row: &[Candidate],
-) -> Result<Signature, Fault<'static>> {
+) -> Result<Signature, Fault> {
     let externs = checked.into_externs();
     let mut open = Vec::new(alloc);
     for (import, served) in externs.imports.into_iter().zip(row) {

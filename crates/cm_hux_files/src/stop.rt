@@ -15,7 +15,7 @@ pub enum Stop {
 
 impl Stop {
     /// Why a play ends where writing a line ended in this fault.
-    pub fn of(fault: &Fault<'_>) -> Stop {
+    pub fn of(fault: &Fault) -> Stop {
         match fault {
             Fault::Memory => Stop::Memory,
             _ => Stop::Output,
@@ -23,7 +23,7 @@ impl Stop {
     }
 
     /// The fault of a command that ends so.
-    pub fn fault(self) -> Fault<'static> {
+    pub fn fault(self) -> Fault {
         match self {
             Stop::Output => Fault::Output,
             Stop::Memory => Fault::Memory,
@@ -50,7 +50,7 @@ impl From<io::Error> for Stop {
 }
 
 /// What was told, or why it was not.
-pub fn told(told: Result<(), Fault<'_>>) -> Result<(), Stop> {
+pub fn told(told: Result<(), Fault>) -> Result<(), Stop> {
     match told {
         Ok(()) => Ok(()),
         Err(fault) => Err(Stop::of(&fault)),

@@ -23,36 +23,28 @@ pub trait Streams {
 }
 
 /// A file of this name, with nothing in it.
-pub fn create<'a, S: Streams>(
-    alloc: Global,
-    streams: &mut S,
-    name: &'a str,
-) -> Result<S::Writer, Fault<'a>> {
+pub fn create<S: Streams>(alloc: Global, streams: &mut S, name: &str) -> Result<S::Writer, Fault> {
     match streams.create(alloc, name) {
         Ok(writer) => Ok(writer),
-        Err(error) => Err(unwritten(name, &error)),
+        Err(error) => Err(unwritten(alloc, name, &error)),
     }
 }
 
 /// Writes a file of this name, with these bytes in it.
-pub fn write_file<'a, S: Streams>(
+pub fn write_file<S: Streams>(
     alloc: Global,
     streams: &mut S,
-    name: &'a str,
+    name: &str,
     bytes: &[u8],
-) -> Result<(), Fault<'a>> {
+) -> Result<(), Fault> {
     match write_whole(alloc, streams, name, bytes) {
         Ok(()) => Ok(()),
-        Err(error) => Err(unwritten(name, &error)),
+        Err(error) => Err(unwritten(alloc, name, &error)),
     }
 }
 
 /// Refuses to write a file that is read too, since what it holds would be gone.
-pub fn refuse_to_overwrite(
-    alloc: Global,
-    name: &str,
-    files: &[&str],
-) -> Result<(), Fault<'static>> {
+pub fn refuse_to_overwrite(alloc: Global, name: &str, files: &[&str]) -> Result<(), Fault> {
     if files.contains(&name) {
         let name = Escaped(name);
         return Err(Fault::Refused(format!(in alloc;
@@ -62,10 +54,13 @@ pub fn refuse_to_overwrite(
     Ok(())
 }
 
-/// The fault of a file of this name that cannot be written.
-pub fn unwritten<'a>(name: &'a str, error: &io::Error) -> Fault<'a> {
+/// The fault of a file of this name that cannot be written; `Memory` where there is none for it.
+pub fn unwritten(alloc: Global, name: &str, error: &io::Error) -> Fault {
     let kind = error.kind();
-    Fault::Unwritten { name, kind }
+    match String::from_str(alloc, name) {
+        Ok(name) => Fault::Unwritten { name, kind },
+        Err(_) => Fault::Memory,
+    }
 }
 
 /// The same, with the error of what failed.

@@ -5,7 +5,7 @@ use crate::providers::{Provider, providers_of};
 use crate::served::{Served, one_behind};
 use crate::trouble::Trouble;
 use crate::type_imports::imports_type;
-use cm_bundle::{Bundle, BundleReason, PartExport, Sort, Supply, unbundle};
+use cm_bundle::{Bundle, BundleFault, BundleReason, PartExport, Sort, Supply, unbundle};
 use cm_match_model::Candidate;
 use cm_match_serving::{Checked, ExportEntry, ExportedEntry};
 use cm_tool_help_texts::Escaped;
@@ -14,15 +14,19 @@ use cm_types_arena::{Extern, ExternDesc};
 use std::alloc::{AllocError, Global};
 
 /// The bundle that the file of this name is.
-pub fn read_bundle<'a, 'b>(
-    alloc: Global,
-    name: &'a str,
-    bytes: &'b [u8],
-) -> Result<Bundle<'b>, Trouble<'a>> {
+pub fn read_bundle<'b>(alloc: Global, name: &str, bytes: &'b [u8]) -> Result<Bundle<'b>, Trouble> {
     match unbundle(alloc, bytes) {
         Ok(bundle) => Ok(bundle),
         Err(fault) if fault.reason == BundleReason::Memory => Err(Trouble::Memory),
-        Err(fault) => Err(Trouble::NoBundle { name, fault }),
+        Err(fault) => Err(no_bundle(alloc, name, fault)),
+    }
+}
+
+/// The trouble of a file of this name, which is no bundle.
+fn no_bundle(alloc: Global, name: &str, fault: BundleFault) -> Trouble {
+    match String::from_str(alloc, name) {
+        Ok(name) => Trouble::NoBundle { name, fault },
+        Err(_) => Trouble::Memory,
     }
 }
 
@@ -163,7 +167,7 @@ pub(crate) fn arguments_of(
     bundle: &Bundle<'_>,
     loaded: &[Loaded<'_>],
     components: &[Checked<'_>],
-) -> Result<Arguments, Trouble<'static>> {
+) -> Result<Arguments, Trouble> {
     let parts = PartsOf {
         name,
         bundle,
@@ -186,7 +190,7 @@ impl<'p> PartsOf<'p, '_, '_> {
         number: usize,
         imports: &[Extern],
         providers: &[Provider],
-    ) -> Result<Vec<Given>, Trouble<'static>> {
+    ) -> Result<Vec<Given>, Trouble> {
         let mut row = Vec::with_capacity(alloc, imports.len())?;
         let Some(part) = self.bundle.parts.get(number) else {
             return Ok(row);
@@ -214,7 +218,7 @@ impl<'p> PartsOf<'p, '_, '_> {
         number: usize,
         argument: &Supply<'_>,
         providers: &[Provider],
-    ) -> Result<Given, Trouble<'static>> {
+    ) -> Result<Given, Trouble> {
         let name = argument.export.name;
         let Some(part) = part_of(self.bundle, argument.export) else {
             return self.open(alloc, number, name);
@@ -230,7 +234,7 @@ impl<'p> PartsOf<'p, '_, '_> {
     }
 
     /// What the bundle imports under a name, as it is given to the part of a number.
-    fn open(self, alloc: Global, number: usize, name: &str) -> Result<Given, Trouble<'static>> {
+    fn open(self, alloc: Global, number: usize, name: &str) -> Result<Given, Trouble> {
         match ExternName::parse(alloc, name) {
             Ok(name) => Ok(Given::Open(name)),
             Err(NameFault::Memory) => Err(Trouble::Memory),
@@ -239,11 +243,7 @@ impl<'p> PartsOf<'p, '_, '_> {
     }
 
     /// The part whose exports the bundle has: where it has none, the first that exports nothing.
-    fn exporter(
-        self,
-        alloc: Global,
-        components: &[Checked<'_>],
-    ) -> Result<usize, Trouble<'static>> {
+    fn exporter(self, alloc: Global, components: &[Checked<'_>]) -> Result<usize, Trouble> {
         let exports = self.bundle.exports.as_slice();
         let exporter = match exports.first() {
             Some(supply) => part_of(self.bundle, supply.export),
@@ -272,7 +272,7 @@ impl<'p> PartsOf<'p, '_, '_> {
         true
     }
 
-    fn other_exports(self, alloc: Global) -> Trouble<'static> {
+    fn other_exports(self, alloc: Global) -> Trouble {
         let why = "its exports are not those of one part, in order";
         match (
             String::from_str(alloc, self.name),
@@ -284,7 +284,7 @@ impl<'p> PartsOf<'p, '_, '_> {
     }
 
     /// The trouble of the part of a number.
-    fn other_links(self, alloc: Global, number: usize, wrong: Wrong<'_>) -> Trouble<'static> {
+    fn other_links(self, alloc: Global, number: usize, wrong: Wrong<'_>) -> Trouble {
         let name = String::from_str(alloc, self.word(number));
         match (name, self.why(alloc, wrong)) {
             (Ok(name), Ok(why)) => Trouble::OtherLinks { name, why },

@@ -23,15 +23,15 @@ use std::io::{BufReader, Read, Write};
 ///
 /// Objects are not printed, and no file is standard input, which has the lines: such words are
 /// refused. Where the input ends within a line, or while a call is open, that is a fault.
-pub fn run_live<'a, F: Files, S: Streams, O: Write, E: Write>(
+pub fn run_live<F: Files, S: Streams, O: Write, E: Write>(
     alloc: Global,
-    words: &LiveWords<'a>,
+    words: &LiveWords<'_>,
     habits: Habits,
     files: &mut F,
     streams: &mut S,
     out: &mut O,
     err: &mut E,
-) -> Result<Ending, Fault<'a>> {
+) -> Result<Ending, Fault> {
     check_words(alloc, words, habits)?;
     let limit = limit_of(alloc, words.limit)?;
     let (mut loaded, unread) = load_files(alloc, files, &words.files);
@@ -48,7 +48,7 @@ pub fn run_live<'a, F: Files, S: Streams, O: Write, E: Write>(
 }
 
 /// Refuses words that lines do not go with.
-fn check_words(alloc: Global, words: &LiveWords<'_>, habits: Habits) -> Result<(), Fault<'static>> {
+fn check_words(alloc: Global, words: &LiveWords<'_>, habits: Habits) -> Result<(), Fault> {
     let why = if habits.json {
         "--json: the lines of live have a form of their own"
     } else if words.files.iter().any(|name| *name == "-") {
@@ -78,7 +78,7 @@ impl<'l, 'b, 'a> Live<'l, 'b, 'a> {
         streams: &mut S,
         out: &mut O,
         err: &mut E,
-    ) -> Result<Ending, Fault<'a>> {
+    ) -> Result<Ending, Fault> {
         let pages = pages(self.alloc, words.pages, self.linked)?;
         let mut session = session(self.alloc, self.linked, &pages)?;
         self.play(words, &mut session, pages, streams, out, err)
@@ -93,7 +93,7 @@ impl<'l, 'b, 'a> Live<'l, 'b, 'a> {
         streams: &mut S,
         out: &mut O,
         err: &mut E,
-    ) -> Result<Ending, Fault<'a>> {
+    ) -> Result<Ending, Fault> {
         let names = component_names(self.alloc, self.loaded)?;
         let files = file_names(self.alloc, self.loaded)?;
         write_plan(self.alloc, self.loaded, self.linked, out)?;
@@ -131,15 +131,15 @@ impl<'l, 'b, 'a> Live<'l, 'b, 'a> {
     }
 
     /// Plays the lines on the session, and records them where a record of this name is given.
-    fn serve<'n, R: Read, K: Write, L: Listener, O: Write>(
+    fn serve<R: Read, K: Write, L: Listener, O: Write>(
         &self,
         session: &mut Session<'_, '_>,
         lines: &mut BufReader<Lines<R>>,
-        name: Option<&'n str>,
+        name: Option<&str>,
         record: &mut Option<Record<K>>,
         listener: &mut L,
         out: &mut O,
-    ) -> Result<Ending, Fault<'n>> {
+    ) -> Result<Ending, Fault> {
         let alloc = self.alloc;
         let mut noted = Noted::new(out);
         match serve(
@@ -166,7 +166,7 @@ fn ended<R: Read>(
     alloc: Global,
     session: &Session<'_, '_>,
     lines: &Lines<R>,
-) -> Result<Ending, Fault<'static>> {
+) -> Result<Ending, Fault> {
     if lines.is_within_line() {
         let text = String::from_str(alloc, "standard input ends within a line")?;
         return Err(Fault::Refused(text));
@@ -181,13 +181,13 @@ fn ended<R: Read>(
 
 /// Why serving failed, where reading has this fault, or none, and the output has failed or not. The
 /// moves are recorded to the file of this name, if there is one.
-fn fault_of<'n>(
+fn fault_of(
     alloc: Global,
     error: &io::Error,
     fault: Option<ReadFault>,
     has_output_failed: bool,
-    record: Option<&'n str>,
-) -> Result<Fault<'n>, AllocError> {
+    record: Option<&str>,
+) -> Result<Fault, AllocError> {
     match (fault, record) {
         (Some(ReadFault::TooLong), _) => Ok(Fault::Refused(format!(in alloc;
             "standard input: a line has more than {MAX_LINE} bytes"
@@ -195,19 +195,19 @@ fn fault_of<'n>(
         (Some(ReadFault::Failed), _) => Ok(Fault::Input),
         (None, _) if has_output_failed => Ok(Fault::Output),
         (None, Some(name)) if error.kind() != io::ErrorKind::OutOfMemory => {
-            Ok(unwritten(name, error))
+            Ok(unwritten(alloc, name, error))
         }
         (None, _) => Ok(Fault::Memory),
     }
 }
 
 /// The record of a session whose memories begin with these pages, where one is chosen.
-fn record<'a, S: Streams>(
+fn record<S: Streams>(
     alloc: Global,
-    name: Option<&'a str>,
+    name: Option<&str>,
     pages: Vec<u32>,
     streams: &mut S,
-) -> Result<Option<Record<S::Writer>>, Fault<'a>> {
+) -> Result<Option<Record<S::Writer>>, Fault> {
     match name {
         Some(name) => Ok(Some(Record::new(create(alloc, streams, name)?, pages))),
         None => Ok(None),
@@ -215,7 +215,7 @@ fn record<'a, S: Streams>(
 }
 
 /// The most moves.
-fn limit_of(alloc: Global, word: Option<&str>) -> Result<u64, Fault<'static>> {
+fn limit_of(alloc: Global, word: Option<&str>) -> Result<u64, Fault> {
     match word {
         None => Ok(u64::MAX),
         Some(word) => match read_u64(word) {
@@ -226,18 +226,14 @@ fn limit_of(alloc: Global, word: Option<&str>) -> Result<u64, Fault<'static>> {
 }
 
 /// The pages of each component's memory.
-fn pages(
-    alloc: Global,
-    words: Option<&str>,
-    linked: &Linked<'_>,
-) -> Result<Vec<u32>, Fault<'static>> {
+fn pages(alloc: Global, words: Option<&str>, linked: &Linked<'_>) -> Result<Vec<u32>, Fault> {
     match words {
         Some(words) => given_pages(alloc, words),
         None => declared_pages(alloc, linked),
     }
 }
 
-fn given_pages(alloc: Global, words: &str) -> Result<Vec<u32>, Fault<'static>> {
+fn given_pages(alloc: Global, words: &str) -> Result<Vec<u32>, Fault> {
     let mut pages = Vec::new(alloc);
     for word in words.split(',') {
         match read_u32(word) {
@@ -251,7 +247,7 @@ fn given_pages(alloc: Global, words: &str) -> Result<Vec<u32>, Fault<'static>> {
     Ok(pages)
 }
 
-fn declared_pages(alloc: Global, linked: &Linked<'_>) -> Result<Vec<u32>, Fault<'static>> {
+fn declared_pages(alloc: Global, linked: &Linked<'_>) -> Result<Vec<u32>, Fault> {
     let mut pages = Vec::new(alloc);
     for checked in linked.components() {
         pages.push(pages_of(alloc, checked.component())?)?;
@@ -263,7 +259,7 @@ fn session<'c, 'b>(
     alloc: Global,
     linked: &'c Linked<'b>,
     pages: &[u32],
-) -> Result<Session<'c, 'b>, Fault<'static>> {
+) -> Result<Session<'c, 'b>, Fault> {
     match Session::new(alloc, linked, pages) {
         Ok(session) => Ok(session),
         Err(misuse) => {

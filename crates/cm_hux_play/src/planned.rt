@@ -17,12 +17,12 @@ struct FilePlace<'n> {
 
 /// Writes the plan of each component, in order. Those of a bundle are named by the bundle, and lie
 /// where they stand in it.
-pub(crate) fn write_plan<'a, O: Write>(
+pub(crate) fn write_plan<O: Write>(
     alloc: Global,
-    loaded: &LoadedFiles<'a>,
+    loaded: &LoadedFiles<'_>,
     linked: &Linked<'_>,
     out: &mut O,
-) -> Result<(), Fault<'a>> {
+) -> Result<(), Fault> {
     let places = file_places(alloc, loaded)?;
     let files = loaded.files().iter().zip(&places);
     for ((file, place), checked) in files.zip(linked.components()) {
@@ -69,13 +69,13 @@ fn place_parts<'n>(
 }
 
 /// Writes the plan of a component, whose file stands there.
-fn write_planned<'a, O: Write>(
+fn write_planned<O: Write>(
     alloc: Global,
-    loaded: &Loaded<'a>,
+    loaded: &Loaded<'_>,
     place: FilePlace<'_>,
     checked: &Checked<'_>,
     out: &mut O,
-) -> Result<(), Fault<'a>> {
+) -> Result<(), Fault> {
     let types = type_rows(alloc, loaded)?;
     let file = PlacedFile {
         name: place.name,
@@ -92,13 +92,10 @@ fn write_planned<'a, O: Write>(
 }
 
 /// The types of what a component imports and exports, as `show --json` has them.
-fn type_rows<'a>(alloc: Global, loaded: &Loaded<'a>) -> Result<String, Fault<'a>> {
+fn type_rows(alloc: Global, loaded: &Loaded<'_>) -> Result<String, Fault> {
     let signature = signature(alloc, loaded.check(alloc)?)?;
     match signature_rows(alloc, &signature, "type ", "func ") {
         Ok(rows) => Ok(rows),
-        Err(fault) => Err(Fault::Tool(ToolFault::Show {
-            name: loaded.name,
-            fault,
-        })),
+        Err(fault) => Err(Fault::Tool(ToolFault::show(alloc, loaded.name, fault))),
     }
 }

@@ -15,14 +15,14 @@ const MESSAGES: u64 = 100;
 /// Links the components of files, and plays the script of another, whose checks are made: prints
 /// its events, or what components say to one another, as lines, as JSON objects in lines, or as a
 /// diagram, which is one object then. Where only what is wrong is wanted, it prints the traps.
-pub fn run_play<'a, F: Files, O: Write, E: Write>(
+pub fn run_play<F: Files, O: Write, E: Write>(
     alloc: Global,
-    words: &PlayWords<'a>,
+    words: &PlayWords<'_>,
     habits: Habits,
     files: &mut F,
     out: &mut O,
     err: &mut E,
-) -> Result<Ending, Fault<'a>> {
+) -> Result<Ending, Fault> {
     let form = form_of(alloc, words)?;
     let (mut loaded, unread) = load_files(alloc, files, &words.files);
     loaded.serve_by(alloc, &words.serve)?;
@@ -41,7 +41,7 @@ fn play_linked<O: Write, E: Write>(
     linked: &Linked<'_>,
     out: &mut O,
     err: &mut E,
-) -> Result<Ending, Fault<'static>> {
+) -> Result<Ending, Fault> {
     let mut set = make_set(alloc, linked, &script.script.pages)?;
     let shown = component_names(alloc, loaded)?;
     let play = Play {
@@ -61,7 +61,7 @@ fn play_linked<O: Write, E: Write>(
 }
 
 /// What the words want printed.
-fn form_of(alloc: Global, words: &PlayWords<'_>) -> Result<Form, Fault<'static>> {
+fn form_of(alloc: Global, words: &PlayWords<'_>) -> Result<Form, Fault> {
     let messages = messages_of(alloc, words.messages)?;
     if words.values {
         Ok(Form::Values)
@@ -73,7 +73,7 @@ fn form_of(alloc: Global, words: &PlayWords<'_>) -> Result<Form, Fault<'static>>
 }
 
 /// The most messages of a diagram.
-fn messages_of(alloc: Global, word: Option<&str>) -> Result<u64, Fault<'static>> {
+fn messages_of(alloc: Global, word: Option<&str>) -> Result<u64, Fault> {
     let Some(word) = word else {
         return Ok(MESSAGES);
     };
@@ -84,12 +84,12 @@ fn messages_of(alloc: Global, word: Option<&str>) -> Result<u64, Fault<'static>>
 }
 
 /// The script of a file, for what is linked.
-fn script_of<'a, F: Files>(
+fn script_of<F: Files>(
     alloc: Global,
-    name: &'a str,
+    name: &str,
     linked: &Linked<'_>,
     files: &mut F,
-) -> Result<HuxScript, Fault<'a>> {
+) -> Result<HuxScript, Fault> {
     let names = Names::of(alloc, linked.components())?;
     load_script(alloc, files, name, &names)
 }

@@ -37,7 +37,7 @@ impl<O: Write> Teller for SaidChart<'_, O> {
         Ok(())
     }
 
-    fn refused(&mut self, _fault: &Fault<'_>) -> Result<(), Stop> {
+    fn refused(&mut self, _fault: &Fault) -> Result<(), Stop> {
         Ok(())
     }
 }

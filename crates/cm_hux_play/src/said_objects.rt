@@ -46,7 +46,7 @@ impl<O: Write> Teller for SaidObjects<'_, '_, O> {
         Ok(())
     }
 
-    fn refused(&mut self, fault: &Fault<'_>) -> Result<(), Stop> {
+    fn refused(&mut self, fault: &Fault) -> Result<(), Stop> {
         if self.habits.json {
             told(tell_fault(self.alloc, fault, self.out))?;
         }

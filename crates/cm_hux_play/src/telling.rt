@@ -17,7 +17,7 @@ pub(crate) trait Teller {
     fn pause(&mut self) -> Result<(), Stop>;
 
     /// Standard error has a line of this fault: a drive is refused, or a check has failed.
-    fn refused(&mut self, fault: &Fault<'_>) -> Result<(), Stop>;
+    fn refused(&mut self, fault: &Fault) -> Result<(), Stop>;
 }
 
 /// Tells a teller what components say to one another.
@@ -92,7 +92,7 @@ impl<T: Teller> Printer for Telling<'_, '_, T> {
         self.teller.pause()
     }
 
-    fn refused(&mut self, fault: &Fault<'_>) -> Result<(), Stop> {
+    fn refused(&mut self, fault: &Fault) -> Result<(), Stop> {
         self.teller.refused(fault)
     }
 }

@@ -60,7 +60,7 @@ impl<O: Write> Printer for ToldEvents<'_, O> {
         Ok(())
     }
 
-    fn refused(&mut self, fault: &Fault<'_>) -> Result<(), Stop> {
+    fn refused(&mut self, fault: &Fault) -> Result<(), Stop> {
         if self.habits.json {
             told(tell_fault(self.alloc, fault, self.out))?;
         }

@@ -35,13 +35,13 @@ pub fn tool<F: Files, O: Write, E: Write>(
     }
 }
 
-fn run<'a, F: Files, O: Write, E: Write>(
+fn run<F: Files, O: Write, E: Write>(
     alloc: Global,
-    words: &'a [String],
+    words: &[String],
     files: &mut F,
     out: &mut O,
     err: &mut E,
-) -> Result<Outcome, Fault<'a>> {
+) -> Result<Outcome, Fault> {
     match read_words(alloc, words)? {
         Request::Check { file } => run_check(alloc, file, files, out),
         Request::Show { file } => run_show(alloc, file, files, out),
@@ -56,42 +56,42 @@ fn run<'a, F: Files, O: Write, E: Write>(
     }
 }
 
-fn read_words<'a>(alloc: Global, words: &'a [String]) -> Result<Request<'a>, Fault<'a>> {
+fn read_words<'a>(alloc: Global, words: &'a [String]) -> Result<Request<'a>, Fault> {
     match Request::read(alloc, words) {
         Ok(request) => Ok(request),
-        Err(WordsFault::NoCommand) => Err(Fault::Usage(Usage::Words(words))),
+        Err(WordsFault::NoCommand) => Err(Fault::usage(alloc, Usage::Words(words))),
         Err(WordsFault::Memory) => Err(Fault::Memory),
     }
 }
 
-fn run_play<'a, F: Files, O: Write, E: Write>(
+fn run_play<F: Files, O: Write, E: Write>(
     alloc: Global,
-    script: &'a str,
-    names: &[&'a str],
+    script: &str,
+    names: &[&str],
     files: &mut F,
     out: &mut O,
     err: &mut E,
-) -> Result<Outcome, Fault<'a>> {
+) -> Result<Outcome, Fault> {
     let loaded = load_files(alloc, files, names)?;
     let linked = loaded.link(alloc)?;
     play_linked(alloc, script, &linked, files, out, err)
 }
 
 /// Plays the script of a file on components that are linked.
-pub fn play_linked<'a, F: Files, O: Write, E: Write>(
+pub fn play_linked<F: Files, O: Write, E: Write>(
     alloc: Global,
-    name: &'a str,
+    name: &str,
     linked: &Linked<'_>,
     files: &mut F,
     out: &mut O,
     err: &mut E,
-) -> Result<Outcome, Fault<'a>> {
+) -> Result<Outcome, Fault> {
     let script = load_script(alloc, files, name, linked.components().len())?;
     let mut set = make_set(alloc, linked, script.pages.as_slice())?;
     play(alloc, &mut set, script, LIMIT, out, err)
 }
 
-fn make_set(alloc: Global, linked: &Linked<'_>, pages: &[u32]) -> Result<Set, Fault<'static>> {
+fn make_set(alloc: Global, linked: &Linked<'_>, pages: &[u32]) -> Result<Set, Fault> {
     let size = SetSize::new(linked.components().len(), pages);
     Set::new(alloc, linked, pages).map_err(|misuse| Fault::Set { misuse, size })
 }

@@ -16,7 +16,7 @@ pub fn play<O: Write, E: Write>(
     limit: u64,
     out: &mut O,
     err: &mut E,
-) -> Result<Outcome, Fault<'static>> {
+) -> Result<Outcome, Fault> {
     let Script {
         pages: _,
         moves,

@@ -9,8 +9,8 @@ use Rattle.cm_tool_commands.specs.declared.outcome.Outcome.TheVariants as outcom
 -- The exit status of a command that ends by a fault: 2 where the words are no command, 4 where a
 -- file cannot be read or standard output not be written, else 1.
 abbrev pub fault_status : Fault → ℕ
-fault_status (fault.Usage usage) = 2
-fault_status (fault.File bad tail) = file_status bad.reason
+fault_status (fault.Usage text) = 2
+fault_status (fault.File name reason tail) = file_status reason
 fault_status fault.Output = 4
 fault_status _ = 1
 

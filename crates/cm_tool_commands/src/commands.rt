@@ -11,12 +11,12 @@ use std::io;
 use std::io::Write;
 
 /// Prints how many imports and exports the valid component of a file has.
-pub fn run_check<'a, F: Files, O: Write>(
+pub fn run_check<F: Files, O: Write>(
     alloc: Global,
-    name: &'a str,
+    name: &str,
     files: &mut F,
     out: &mut O,
-) -> Result<Outcome, Fault<'a>> {
+) -> Result<Outcome, Fault> {
     let (imports, exports) = counts_of(alloc, name, files)?;
     writeln!(out, "ok: {imports} imports, {exports} exports")?;
     out.flush()?;
@@ -24,46 +24,41 @@ pub fn run_check<'a, F: Files, O: Write>(
 }
 
 /// How many imports and how many exports the component of a file has.
-fn counts_of<'a, F: Files>(
-    alloc: Global,
-    name: &'a str,
-    files: &mut F,
-) -> Result<(usize, usize), Fault<'a>> {
+fn counts_of<F: Files>(alloc: Global, name: &str, files: &mut F) -> Result<(usize, usize), Fault> {
     let component = load_file(alloc, files, name)?;
     let checked = check(alloc, name, &component)?;
     Ok((checked.imports().len(), checked.exports().len()))
 }
 
 /// Prints what the valid component of a file imports and exports.
-pub fn run_show<'a, F: Files, O: Write>(
+pub fn run_show<F: Files, O: Write>(
     alloc: Global,
-    name: &'a str,
+    name: &str,
     files: &mut F,
     out: &mut O,
-) -> Result<Outcome, Fault<'a>> {
+) -> Result<Outcome, Fault> {
     let text = shown_text(alloc, name, files)?;
     write_text(out, text.as_str())?;
     Ok(Outcome::Done)
 }
 
 /// The text that shows the component of a file.
-fn shown_text<'a, F: Files>(
-    alloc: Global,
-    name: &'a str,
-    files: &mut F,
-) -> Result<String, Fault<'a>> {
+fn shown_text<F: Files>(alloc: Global, name: &str, files: &mut F) -> Result<String, Fault> {
     let component = load_file(alloc, files, name)?;
     let checked = check(alloc, name, &component)?;
-    show_component(alloc, checked).map_err(|fault| Fault::Show { name, fault })
+    match show_component(alloc, checked) {
+        Ok(text) => Ok(text),
+        Err(fault) => Err(Fault::show(alloc, name, fault)),
+    }
 }
 
 /// Prints `ok` where the component of a file fits a world.
-pub fn run_conform<'a, F: Files, O: Write>(
+pub fn run_conform<F: Files, O: Write>(
     alloc: Global,
-    asked: Asked<'a>,
+    asked: Asked<'_>,
     files: &mut F,
     out: &mut O,
-) -> Result<Outcome, Fault<'a>> {
+) -> Result<Outcome, Fault> {
     conform(alloc, asked, files)?;
     write_text(out, "ok\n")?;
     Ok(Outcome::Done)
@@ -75,12 +70,12 @@ fn write_text<O: Write>(out: &mut O, text: &str) -> io::Result<()> {
 }
 
 /// Links the components of files, and prints which export serves each import.
-pub fn run_link<'a, F: Files, O: Write>(
+pub fn run_link<F: Files, O: Write>(
     alloc: Global,
-    names: &[&'a str],
+    names: &[&str],
     files: &mut F,
     out: &mut O,
-) -> Result<Outcome, Fault<'a>> {
+) -> Result<Outcome, Fault> {
     let loaded = load_files(alloc, files, names)?;
     let linked = loaded.link(alloc)?;
     write_plan(out, &linked)?;

@@ -23,11 +23,11 @@ pub struct Asked<'a> {
 }
 
 /// Refuses a component that does not fit the world.
-pub(crate) fn conform<'a, F: Files>(
+pub(crate) fn conform<F: Files>(
     alloc: Global,
-    asked: Asked<'a>,
+    asked: Asked<'_>,
     files: &mut F,
-) -> Result<(), Fault<'a>> {
+) -> Result<(), Fault> {
     let component = load_file(alloc, files, asked.file)?;
     let checked = check(alloc, asked.file, &component)?;
     let bytes = match read_file(alloc, files, asked.wit) {
@@ -40,15 +40,22 @@ pub(crate) fn conform<'a, F: Files>(
     };
     match conform_component(alloc, text, asked.world, checked) {
         Ok(()) => Ok(()),
-        Err(reason) => Err(Fault::Unfit {
-            unfit: Unfit {
-                wit: asked.wit,
-                world: asked.world,
-                file: asked.file,
-                reason,
-            },
-            tail: tail_of(alloc, text, asked, &component, reason),
-        }),
+        Err(reason) => {
+            let tail = tail_of(alloc, text, asked, &component, reason);
+            Err(Fault::unfit(alloc, asked.unfit(reason), tail))
+        }
+    }
+}
+
+impl<'a> Asked<'a> {
+    /// Why the component does not fit the world.
+    pub fn unfit(self, reason: UnfitReason) -> Unfit<'a> {
+        Unfit {
+            wit: self.wit,
+            world: self.world,
+            file: self.file,
+            reason,
+        }
     }
 }
 

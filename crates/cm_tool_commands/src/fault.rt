@@ -6,36 +6,40 @@ ghost use Rattle.cm_tool_commands.specs.declared.fault.Fault.TheVariants as faul
 
 use cm_machine_model::Misuse;
 use cm_match::{LinkFault, LinkReason};
-use cm_tool_files::{BadFile, Unfit, write_show_fault};
+use cm_tool_files::{BadFile, FileReason, Unfit, UnfitReason, write_show_fault};
 use cm_tool_lines::{
     BadLine, Drive, SetSize, write_bad_line, write_begin_fault, write_limit, write_set_fault,
 };
 use cm_tool_show::ShowFault;
 use cm_tool_words::Usage;
-use std::alloc::{AllocError, AllocFailed};
+use std::alloc::{AllocError, AllocFailed, Global};
 use std::io::Write;
 use std::{fmt, io};
 
 /// What has a line on standard error. A name is the word of the command line.
 #[derive(Drop)]
-pub enum Fault<'a> {
-    /// The words are no command, or ask for help.
-    Usage(Usage<'a>),
+pub enum Fault {
+    /// The words are no command, or ask for help: which is wrong, and what was expected.
+    Usage(String),
     /// There was no memory.
     Memory,
     /// A file is not what the command wants. The tail says what stands there.
     File {
-        bad: BadFile<'a>,
+        name: String,
+        reason: FileReason,
         tail: String,
     },
     /// The component of a file is not shown.
     Show {
-        name: &'a str,
+        name: String,
         fault: ShowFault,
     },
-    /// The component of a file does not fit a world. The tail says what each of them has.
+    /// The component of a file does not fit a world of a text. The tail says what each of them has.
     Unfit {
-        unfit: Unfit<'a>,
+        wit: String,
+        world: String,
+        file: String,
+        reason: UnfitReason,
         tail: String,
     },
     /// So many components do not link. The tail says what they have.
@@ -65,7 +69,52 @@ pub enum Fault<'a> {
     Output,
 }
 
-impl Fault<'_> {
+impl Fault {
+    /// The fault of words that are no command; `Memory` where there is none for its line.
+    pub fn usage(alloc: Global, usage: Usage<'_>) -> Fault {
+        match format!(in alloc; "{usage}") {
+            Ok(text) => Fault::Usage(text),
+            Err(_) => Fault::Memory,
+        }
+    }
+
+    /// The fault of a file; `Memory` where there is none for its name.
+    pub fn file(alloc: Global, bad: BadFile<'_>, tail: String) -> Fault {
+        match String::from_str(alloc, bad.name) {
+            Ok(name) => Fault::File {
+                name,
+                reason: bad.reason,
+                tail,
+            },
+            Err(_) => Fault::Memory,
+        }
+    }
+
+    /// The fault of a file whose component is not shown; `Memory` where there is none for its name.
+    pub fn show(alloc: Global, name: &str, fault: ShowFault) -> Fault {
+        match String::from_str(alloc, name) {
+            Ok(name) => Fault::Show { name, fault },
+            Err(_) => Fault::Memory,
+        }
+    }
+
+    /// The fault of a component that does not fit a world; `Memory` where there is none for the
+    /// names.
+    pub fn unfit(alloc: Global, unfit: Unfit<'_>, tail: String) -> Fault {
+        let wit = String::from_str(alloc, unfit.wit);
+        let world = String::from_str(alloc, unfit.world);
+        match (wit, world, String::from_str(alloc, unfit.file)) {
+            (Ok(wit), Ok(world), Ok(file)) => Fault::Unfit {
+                wit,
+                world,
+                file,
+                reason: unfit.reason,
+                tail,
+            },
+            _ => Fault::Memory,
+        }
+    }
+
     /// The exit status of a command that ends by this fault: 2 where the words are no command, 4
     /// where a file cannot be read or standard output not be written, else 1.
     pub fn status(&self) -> u8
@@ -74,7 +123,7 @@ impl Fault<'_> {
         match self {
             Fault::Usage(_) => 2,
             Fault::Output => 4,
-            Fault::File { bad, .. } => bad.status(),
+            Fault::File { name, reason, .. } => bad_file(name, *reason).status(),
             Fault::Memory
             | Fault::Show { .. }
             | Fault::Unfit { .. }
@@ -87,7 +136,7 @@ impl Fault<'_> {
     }
 }
 
-impl From<AllocError> for Fault<'_> {
+impl From<AllocError> for Fault {
     ghost from_gives = { λ _ f. f ≡ fault.Memory };
 
     fn from(_error: AllocError) -> Self {
@@ -95,7 +144,7 @@ impl From<AllocError> for Fault<'_> {
     }
 }
 
-impl<T: Drop> From<AllocFailed<T>> for Fault<'_> {
+impl<T: Drop> From<AllocFailed<T>> for Fault {
     ghost from_gives = { λ _ f. f ≡ fault.Memory };
 
     fn from(_error: AllocFailed<T>) -> Self {
@@ -103,7 +152,7 @@ impl<T: Drop> From<AllocFailed<T>> for Fault<'_> {
     }
 }
 
-impl From<io::Error> for Fault<'_> {
+impl From<io::Error> for Fault {
     ghost from_gives = { λ _ f. f ≡ fault.Output };
 
     fn from(_error: io::Error) -> Self {
@@ -111,14 +160,20 @@ impl From<io::Error> for Fault<'_> {
     }
 }
 
-impl fmt::Display for Fault<'_> {
+impl fmt::Display for Fault {
     fn fmt<W: fmt::Write>(&self, f: &mut fmt::Formatter<W>) -> fmt::Result {
         match self {
-            Fault::Usage(usage) => write!(f, "{usage}"),
+            Fault::Usage(text) => f.write_str(text.as_str()),
             Fault::Memory => f.write_str("Memory"),
-            Fault::File { bad, tail } => write!(f, "{bad}{tail}"),
-            Fault::Show { name, fault } => write_show_fault(f, name, *fault),
-            Fault::Unfit { unfit, tail } => write!(f, "{unfit}{tail}"),
+            Fault::File { name, reason, tail } => write!(f, "{}{tail}", bad_file(name, *reason)),
+            Fault::Show { name, fault } => write_show_fault(f, name.as_str(), *fault),
+            Fault::Unfit {
+                wit,
+                world,
+                file,
+                reason,
+                tail,
+            } => write!(f, "{}{tail}", unfit_of(wit, world, file, *reason)),
             Fault::Link { fault, count, tail } => write_link_fault(f, *fault, *count, tail),
             Fault::Script(bad) => write_bad_line(f, bad),
             Fault::Set { misuse, size } => write_set_fault(f, *misuse, *size),
@@ -126,6 +181,23 @@ impl fmt::Display for Fault<'_> {
             Fault::Limit { limit, drive } => write_limit(f, *limit, *drive),
             Fault::Output => f.write_str("standard output: Write: it cannot be written"),
         }
+    }
+}
+
+/// The file of this name, which is not what a command wants.
+fn bad_file(name: &str, reason: FileReason) -> BadFile<'_>
+    ensures { result.reason ≡ reason }
+{
+    BadFile { name, reason }
+}
+
+/// Why the component of a file does not fit a world of a text.
+fn unfit_of<'a>(wit: &'a str, world: &'a str, file: &'a str, reason: UnfitReason) -> Unfit<'a> {
+    Unfit {
+        wit,
+        world,
+        file,
+        reason,
     }
 }
 

@@ -31,11 +31,8 @@ struct LoadedFile<'a> {
 }
 
 /// The fault of a file, without a tail.
-pub(crate) fn unread<'a>(alloc: Global, bad: BadFile<'a>) -> Fault<'a> {
-    Fault::File {
-        bad,
-        tail: String::new(alloc),
-    }
+pub(crate) fn unread(alloc: Global, bad: BadFile<'_>) -> Fault {
+    Fault::file(alloc, bad, String::new(alloc))
 }
 
 /// What the bytes of a file have at its fault, in words; nothing where there is no memory for them.
@@ -73,23 +70,23 @@ fn load<'a, F: Files>(
 }
 
 /// The component of the file of this name.
-pub(crate) fn load_file<'a, F: Files>(
+pub(crate) fn load_file<F: Files>(
     alloc: Global,
     files: &mut F,
-    name: &'a str,
-) -> Result<Component, Fault<'a>> {
+    name: &str,
+) -> Result<Component, Fault> {
     match load(alloc, files, name) {
         Ok(component) => Ok(component),
-        Err((bad, tail)) => Err(Fault::File { bad, tail }),
+        Err((bad, tail)) => Err(Fault::file(alloc, bad, tail)),
     }
 }
 
 /// The component of a file as a valid one.
-pub(crate) fn check<'a, 'b>(
+pub(crate) fn check<'b>(
     alloc: Global,
-    name: &'a str,
+    name: &str,
     component: &'b Component,
-) -> Result<Checked<'b>, Fault<'a>> {
+) -> Result<Checked<'b>, Fault> {
     match checked_of(alloc, name, component) {
         Ok(checked) => Ok(checked),
         Err(bad) => {
@@ -97,7 +94,7 @@ pub(crate) fn check<'a, 'b>(
                 FileReason::NotValid(fault) => kept(alloc, valid_help(alloc, component, fault)),
                 _ => String::new(alloc),
             };
-            Err(Fault::File { bad, tail })
+            Err(Fault::file(alloc, bad, tail))
         }
     }
 }
@@ -136,7 +133,7 @@ pub fn load_files<'a, F: Files>(
 impl<'a> LoadedFiles<'a> {
     /// The linked set of the components, which borrows them. They are validated in order, and then
     /// linked; the fault is the first in the order of the files, or else that of the links.
-    pub fn link<'b>(&'b self, alloc: Global) -> Result<Linked<'b>, Fault<'a>> {
+    pub fn link<'b>(&'b self, alloc: Global) -> Result<Linked<'b>, Fault> {
         let components = self.check(alloc)?;
         match link(alloc, components) {
             Ok(linked) => Ok(linked),
@@ -149,22 +146,19 @@ impl<'a> LoadedFiles<'a> {
     }
 
     /// The components as valid ones, in order, where all files have been read.
-    fn check<'b>(&'b self, alloc: Global) -> Result<Vec<Checked<'b>>, Fault<'a>> {
+    fn check<'b>(&'b self, alloc: Global) -> Result<Vec<Checked<'b>>, Fault> {
         let mut components = Vec::with_capacity(alloc, self.loaded.len())?;
         for file in &self.loaded {
             components.push(check(alloc, file.name, &file.component)?)?;
         }
         match &self.fault {
-            Some((bad, tail)) => Err(Fault::File {
-                bad: *bad,
-                tail: tail.clone()?,
-            }),
+            Some((bad, tail)) => Err(Fault::file(alloc, *bad, tail.clone()?)),
             None => Ok(components),
         }
     }
 
     /// What the components have where they do not link, in words.
-    fn tail_of(&self, alloc: Global, fault: LinkFault) -> Result<String, Fault<'a>> {
+    fn tail_of(&self, alloc: Global, fault: LinkFault) -> Result<String, Fault> {
         let mut files = Vec::with_capacity(alloc, self.loaded.len())?;
         for file in &self.loaded {
             let component = check(alloc, file.name, &file.component)?;
@@ -175,12 +169,12 @@ impl<'a> LoadedFiles<'a> {
 }
 
 /// The script of a file, for so many components.
-pub fn load_script<'a, F: Files>(
+pub fn load_script<F: Files>(
     alloc: Global,
     files: &mut F,
-    name: &'a str,
+    name: &str,
     components: usize,
-) -> Result<Script, Fault<'a>> {
+) -> Result<Script, Fault> {
     let bytes = match read_file(alloc, files, name) {
         Ok(bytes) => bytes,
         Err(bad) => return Err(unread(alloc, bad)),

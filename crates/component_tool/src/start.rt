@@ -1,6 +1,7 @@
 //! The program on the machine that it runs on.
 
 use cm_tool::{Disk, Fault, Usage, report, tool, words_of};
+use std::alloc::Global;
 use std::io;
 use std::io::{BufWriter, Input, Write};
 use std::rt::{Env, Files};
@@ -15,7 +16,7 @@ pub fn start<R: Env + Files + Input + AllocGlobal, O: Write + Drop, E: Write>(
     match run(rt, out, err) {
         Ok(status) => status,
         Err(error) => {
-            let fault = fault_of(&error);
+            let fault = fault_of(rt.alloc(), &error);
             report(err, &fault);
             fault.status()
         }
@@ -43,10 +44,10 @@ fn run_words<R: Files + Input + AllocGlobal, O: Write + Drop, E: Write>(
 }
 
 /// Words that are no text are no command.
-fn fault_of(error: &io::Error) -> Fault<'static> {
+fn fault_of(alloc: Global, error: &io::Error) -> Fault {
     if error.kind() == io::ErrorKind::OutOfMemory {
         Fault::Memory
     } else {
-        Fault::Usage(Usage::NoText)
+        Fault::usage(alloc, Usage::NoText)
     }
 }

@@ -55,7 +55,7 @@ fn run<R: Env + Files + Input + AllocGlobal, O: Write + IsTerminal + Drop, E: Wr
 }
 
 /// Words that are no text are no command.
-fn fault_of(alloc: Global, error: &io::Error) -> Fault<'static> {
+fn fault_of(alloc: Global, error: &io::Error) -> Fault {
     if error.kind() == io::ErrorKind::OutOfMemory {
         return Fault::Memory;
     }
