@@ -14,9 +14,12 @@ COMPARED = ("written", "parts/0.wasm", "parts/1.wasm")
 
 
 def named_in(words, files):
-    """The files that words name, by themselves or behind `=`; of the input apart."""
+    """The files that words name, by themselves, behind `=` or by their folder; of the input apart."""
+    def is_named(name):
+        return any(name in word or name.startswith(f"{word}/") for word in words)
+
     return {name: held for name, held in files.items()
-            if name not in ("-", *COMPARED) and any(name in word for word in words)}
+            if name not in ("-", *COMPARED) and is_named(name)}
 
 
 def are_objects(out):

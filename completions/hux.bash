@@ -2,24 +2,25 @@
 _hux() {
     local word=${COMP_WORDS[COMP_CWORD]} words=""
     if [ "$COMP_CWORD" -eq 1 ]; then
-        mapfile -t COMPREPLY < <(compgen -W "check show core conform link unbundle plug play call live stub explain diff help --json --quiet --help --version" -- "$word")
+        mapfile -t COMPREPLY < <(compgen -W "check show core conform wit link unbundle plug play call live stub explain diff help --json --quiet --help --version" -- "$word")
         return
     fi
     case "${COMP_WORDS[1]}" in
         check) words="--json --quiet --help" ;;
         show) words="--json --quiet --help" ;;
         core) words="--json --quiet --help" ;;
-        conform) words="--wit --world --json --quiet --help" ;;
+        conform) words="--wit --world --features --json --quiet --help" ;;
+        wit) words="--world --features --json --quiet --help" ;;
         link) words="--out --export --open --serve --nearest --mermaid --json --quiet --help" ;;
         unbundle) words="--out --json --quiet --help" ;;
         plug) words="--plug --out --serve --json --quiet --help" ;;
         play) words="--script --serve --nearest --values --mermaid --messages --json --quiet --help" ;;
         call) words="--script --serve --nearest --json --quiet --help" ;;
         live) words="--serve --nearest --record --limit --pages --values --quiet --help" ;;
-        stub) words="--out --serve --nearest --caller --json --quiet --help" ;;
+        stub) words="--out --serve --nearest --caller --wit --world --features --json --quiet --help" ;;
         explain) words="--json --quiet --help" ;;
-        diff) words="--world --json --quiet --help" ;;
-        help) words="check show core conform link unbundle plug play call live stub explain diff" ;;
+        diff) words="--world --features --json --quiet --help" ;;
+        help) words="check show core conform wit link unbundle plug play call live stub explain diff" ;;
     esac
     case "${COMP_WORDS[1]} $word" in
         help* | *" -"*) mapfile -t COMPREPLY < <(compgen -W "$words" -- "$word") ;;

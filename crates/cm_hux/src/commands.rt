@@ -6,15 +6,17 @@ use crate::differing::run_diff;
 use crate::explaining::run_explain;
 use crate::objects::{checked_object, tell_fit};
 use crate::stubbing::run_stub;
+use crate::wit_files::WitFiles;
 use cm_hux_call::run_call;
 use cm_hux_json::{core_objects, core_text, signature_objects};
 use cm_hux_play::files::{
-    Asked, Ending, Escaped, Fault, Files, Functions, Loaded, LoadedFiles, Streams, ToolFault,
-    check_file, load_files, read_bytes, report, signature_in, tell, tell_bytes, tell_fault,
+    Asked, Ending, Escaped, Fault, Files, Functions, Loaded, LoadedFiles, Object, Streams,
+    ToolFault, check_file, load_files, read_bytes, report, signature_in, tell, tell_bytes,
+    tell_fault,
 };
 use cm_hux_play::{run_live, run_play};
 use cm_hux_show::{ShowFault, show_world};
-use cm_hux_words::{Answer, ConformWords, Habits, Request, WordsFault};
+use cm_hux_words::{Answer, ConformWords, Habits, Request, WitWords, WordsFault};
 use cm_types_arena::Signature;
 use std::alloc::{AllocError, Global};
 use std::io;
@@ -126,7 +128,8 @@ fn run_command<F: Files, S: Streams, O: Write, E: Write>(
         Request::Check { files: names } => run_check(alloc, names, habits, files, out),
         Request::Show { file } => run_show(alloc, file, habits, files, out),
         Request::Core { file } => run_core(alloc, file, habits, files, out),
-        Request::Conform(asked) => run_conform(alloc, *asked, habits, files, out),
+        Request::Conform(asked) => run_conform(alloc, *asked, habits, files, streams, out),
+        Request::Wit(asked) => run_wit(alloc, *asked, habits, files, streams, out),
         Request::Link(link) => run_link(alloc, link, habits, files, streams, out),
         Request::Unbundle { file, folder } => {
             run_unbundle(alloc, file, folder, habits, files, streams, out)
@@ -136,7 +139,7 @@ fn run_command<F: Files, S: Streams, O: Write, E: Write>(
         Request::Call(call) => run_call(alloc, call, habits.json, files, out, err),
         Request::Live(live) => run_live(alloc, live, habits, files, streams, out, err),
         Request::Explain { words } => run_explain(alloc, words, habits, out),
-        Request::Diff(diff) => run_diff(alloc, diff, habits, files, out),
+        Request::Diff(diff) => run_diff(alloc, diff, habits, files, streams, out),
         Request::Stub(stub) => run_stub(alloc, stub, habits, files, streams, out),
     }
 }
@@ -191,20 +194,66 @@ fn write_checked<O: Write>(name: &str, checked: &Result<(), Fault>, out: &mut O)
 }
 
 /// Says that the component of a file fits a world.
-fn run_conform<F: Files, O: Write>(
+fn run_conform<F: Files, S: Streams, O: Write>(
     alloc: Global,
     words: ConformWords<'_>,
     habits: Habits,
     files: &mut F,
+    streams: &mut S,
     out: &mut O,
 ) -> Result<Ending, Fault> {
-    let ConformWords { wit, world, file } = words;
-    let asked = Asked { wit, world, file };
-    conform(alloc, asked, files)?;
+    let asked = Asked {
+        wit: words.wit,
+        world: words.world,
+        file: words.file,
+    };
+    conform(alloc, asked, words.features, files, streams)?;
     if !habits.json {
         return print(out, "ok\n");
     }
     tell_fit(alloc, asked, out)?;
+    Ok(Ending::Done)
+}
+
+/// Prints what a world of a text or a project imports and exports, or the names of the worlds of
+/// its own package, a line each.
+fn run_wit<F: Files, S: Streams, O: Write>(
+    alloc: Global,
+    words: WitWords<'_>,
+    habits: Habits,
+    files: &mut F,
+    streams: &mut S,
+    out: &mut O,
+) -> Result<Ending, Fault> {
+    let (wit, file) = (words.wit, words.wit);
+    let texts = WitFiles::read(alloc, files, streams, wit)?;
+    let Some(world) = words.world else {
+        return tell_worlds(
+            alloc,
+            &texts.worlds(alloc, wit, words.features)?,
+            habits,
+            out,
+        );
+    };
+    let signature = texts.signature(alloc, Asked { wit, world, file }, words.features)?;
+    tell_signature(alloc, wit, &signature, habits, out)
+}
+
+/// Prints names of worlds, a line each.
+fn tell_worlds<O: Write>(
+    alloc: Global,
+    worlds: &[String],
+    habits: Habits,
+    out: &mut O,
+) -> Result<Ending, Fault> {
+    for world in worlds {
+        if habits.json {
+            tell(Object::new(alloc).with("world", world.as_str())?, out)?;
+        } else {
+            writeln!(out, "{world}")?;
+        }
+    }
+    out.flush()?;
     Ok(Ending::Done)
 }
 
@@ -217,11 +266,22 @@ fn run_show<F: Files, O: Write>(
     out: &mut O,
 ) -> Result<Ending, Fault> {
     let signature = signature_in(alloc, name, read_bytes(alloc, files, name)?)?;
-    let text = shown(alloc, name, show_world(alloc, &signature))?;
+    tell_signature(alloc, name, &signature, habits, out)
+}
+
+/// Prints a signature, which is that of a file of this name.
+fn tell_signature<O: Write>(
+    alloc: Global,
+    name: &str,
+    signature: &Signature,
+    habits: Habits,
+    out: &mut O,
+) -> Result<Ending, Fault> {
+    let text = shown(alloc, name, show_world(alloc, signature))?;
     if !habits.json {
         return print(out, text.as_str());
     }
-    tell_shown(alloc, name, &signature, text.as_str(), out)
+    tell_shown(alloc, name, signature, text.as_str(), out)
 }
 
 /// Prints a signature as objects, before them the text that shows it.

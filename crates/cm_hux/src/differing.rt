@@ -1,10 +1,10 @@
 //! What a component or a world in place of another breaks for users and hosts.
 
-use crate::conforming::unfit;
+use crate::wit_files::WitFiles;
 use cm_hux_diff::{Change, Difference, Effect, differences, replaces};
 use cm_hux_play::files::{
-    Asked, Ending, Escaped, Fault, Files, Object, ToValue, ToolFault, Value, of_file, read_bytes,
-    signature_in, tell, text_of, world_of,
+    Asked, Ending, Escaped, Fault, Files, Object, Streams, ToValue, ToolFault, Value, read_bytes,
+    signature_in, tell,
 };
 use cm_hux_words::{DiffWords, Habits};
 use cm_tool_show::show;
@@ -15,55 +15,82 @@ use std::io::Write;
 /// What a WebAssembly file begins with; others are texts.
 const MAGIC: &[u8] = b"\0asm";
 
-/// The name of a file, and the bytes that it has.
+/// What a file or a folder of a name has.
 #[derive(Drop)]
 struct Read<'a> {
     name: &'a str,
-    bytes: Vec<u8>,
+    has: Has,
+}
+
+/// The bytes of a component file, or texts.
+#[derive(Drop)]
+enum Has {
+    Component(Vec<u8>),
+    Texts(WitFiles),
+}
+
+impl Has {
+    fn of<F: Files, S: Streams>(
+        alloc: Global,
+        files: &mut F,
+        streams: &mut S,
+        name: &str,
+    ) -> Result<Has, Fault> {
+        if let Some(project) = WitFiles::of_folder(alloc, files, streams, name)? {
+            return Ok(Has::Texts(project));
+        }
+        let bytes = read_bytes(alloc, files, name)?;
+        if bytes.starts_with(MAGIC) {
+            return Ok(Has::Component(bytes));
+        }
+        Ok(Has::Texts(WitFiles::of_text(alloc, name, bytes)?))
+    }
 }
 
 impl<'a> Read<'a> {
-    fn of<F: Files>(alloc: Global, files: &mut F, name: &'a str) -> Result<Read<'a>, Fault> {
-        let bytes = read_bytes(alloc, files, name)?;
-        Ok(Read { name, bytes })
+    fn of<F: Files, S: Streams>(
+        alloc: Global,
+        files: &mut F,
+        streams: &mut S,
+        name: &'a str,
+    ) -> Result<Read<'a>, Fault> {
+        let has = Has::of(alloc, files, streams, name)?;
+        Ok(Read { name, has })
     }
 
     fn is_text(&self) -> bool {
-        !self.bytes.starts_with(MAGIC)
+        matches!(self.has, Has::Texts(_))
     }
 
-    /// What the component of the file imports and exports, or the world of the text.
-    fn signature(&self, alloc: Global, world: Option<&'a str>) -> Result<Signature, Fault> {
-        match world {
-            Some(world) if self.is_text() => self.world(alloc, world),
-            _ => signature_in(alloc, self.name, self.bytes.to_vec(alloc)?),
-        }
-    }
-
-    fn world(&self, alloc: Global, world: &'a str) -> Result<Signature, Fault> {
-        let text = match text_of(self.name, &self.bytes) {
-            Ok(text) => text,
-            Err(bad) => return Err(of_file(alloc, bad)),
-        };
-        match world_of(alloc, text, world) {
-            Ok(signature) => Ok(signature),
-            Err(reason) => {
+    /// What the component of the file imports and exports, or the world of the texts, where these
+    /// features are wanted.
+    fn signature(
+        &self,
+        alloc: Global,
+        world: Option<&str>,
+        features: Option<&str>,
+    ) -> Result<Signature, Fault> {
+        match &self.has {
+            Has::Component(bytes) => signature_in(alloc, self.name, bytes.to_vec(alloc)?),
+            Has::Texts(texts) => {
                 let (wit, file) = (self.name, self.name);
-                Err(unfit(alloc, text, Asked { wit, world, file }, reason))
+                let world = world.unwrap_or("");
+                texts.signature(alloc, Asked { wit, world, file }, features)
             }
         }
     }
 }
 
 /// Prints what differs, a line each, and for whom it breaks something, and `ok` where for nobody.
-pub(crate) fn run_diff<F: Files, O: Write>(
+pub(crate) fn run_diff<F: Files, S: Streams, O: Write>(
     alloc: Global,
     words: &DiffWords<'_>,
     habits: Habits,
     files: &mut F,
+    streams: &mut S,
     out: &mut O,
 ) -> Result<Ending, Fault> {
-    let both = Both::read(alloc, words, files)?;
+    let both = Both::read(alloc, words, files, streams)?;
     let telling = Telling { alloc, habits };
     let is_broken = telling.tell_both(&both, out)?;
     telling.tell_end(is_broken, out)?;
@@ -84,25 +111,26 @@ struct Both<'a> {
 }
 
 impl<'a> Both<'a> {
-    fn read<F: Files>(
+    fn read<F: Files, S: Streams>(
         alloc: Global,
         words: &DiffWords<'a>,
         files: &mut F,
+        streams: &mut S,
     ) -> Result<Both<'a>, Fault> {
-        let old = Read::of(alloc, files, words.old)?;
-        let new = Read::of(alloc, files, words.new)?;
-        Both::of(alloc, &old, &new, &words.worlds)
+        let old = Read::of(alloc, files, streams, words.old)?;
+        let new = Read::of(alloc, files, streams, words.new)?;
+        Both::of(alloc, &old, &new, words)
     }
 
     fn of(
         alloc: Global,
         old: &Read<'a>,
         new: &Read<'a>,
-        worlds: &[&'a str],
+        words: &DiffWords<'a>,
     ) -> Result<Both<'a>, Fault> {
-        let (of_old, of_new) = worlds_of(alloc, old, new, worlds)?;
-        let before = old.signature(alloc, of_old)?;
-        let after = new.signature(alloc, of_new)?;
+        let (of_old, of_new) = worlds_of(alloc, old, new, &words.worlds)?;
+        let before = old.signature(alloc, of_old, words.features)?;
+        let after = new.signature(alloc, of_new, words.features)?;
         Ok(Both {
             old_name: old.name,
             new_name: new.name,

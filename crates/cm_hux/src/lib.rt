@@ -10,6 +10,9 @@ mod differing;
 mod explaining;
 mod objects;
 mod stubbing;
+mod wit_faults;
+mod wit_files;
+mod wit_worlds;
 
 pub use cm_hux_json::{CoreRow, core_row, core_text};
 pub use cm_hux_play::files::{

@@ -1,15 +1,17 @@
 //! Writing components that stand in for a host.
 
 use crate::objects::tell_written;
+use crate::wit_files::WitFiles;
 use cm_binary_model::{Component, Section};
 use cm_hux_play::files::{
-    Ending, Escaped, Fault, Files, LoadedFiles, Streams, caller, load_files, provider_for,
-    refuse_to_overwrite, signature, write_file,
+    Asked, Ending, Escaped, Fault, Files, LoadedFiles, Streams, caller, load_files, provider,
+    provider_for, refuse_to_overwrite, signature, write_file,
 };
 use cm_hux_words::{Habits, StubWords};
 use cm_stubs_files::{
-    StubFileFault, caller_file, func_over_named, import_over_named, provider_file,
+    StubFileFault, caller_file, func_over_named, import_over_named, provider_file, provider_file_of,
 };
+use cm_types_arena::Signature;
 use std::alloc::{AllocError, Global};
 use std::io::Write;
 
@@ -24,12 +26,91 @@ pub(crate) fn run_stub<F: Files, S: Streams, O: Write>(
     out: &mut O,
 ) -> Result<Ending, Fault> {
     refuse_to_overwrite(alloc, words.out, &words.files)?;
-    let bytes = stub_bytes(alloc, words, files)?;
+    let bytes = match (words.wit, words.world) {
+        (Some(wit), Some(world)) => {
+            refuse_files(alloc, words)?;
+            stub_of_world(alloc, wit, world, words, files, streams)?
+        }
+        _ => {
+            want_files(alloc, words)?;
+            stub_bytes(alloc, words, files)?
+        }
+    };
     write_file(alloc, streams, words.out, &bytes)?;
     if habits.json {
         tell_written(alloc, words.out, bytes.len(), out)?;
     }
     Ok(Ending::Done)
+}
+
+/// What is said where neither files nor a text are named.
+const NO_FILES: &str = "error: the following required arguments were not provided:
+  <FILE>...
+
+Usage: hux stub --out <OUT> <FILE>...
+
+For more information, try '--help'.
+";
+
+/// What is said where files and a text are named.
+const FILES_TOO: &str = "error: the argument '--wit <W>' cannot be used with '<FILE>...'
+
+Usage: hux stub --out <OUT> <FILE>...
+
+For more information, try '--help'.
+";
+
+fn want_files(alloc: Global, words: &StubWords<'_>) -> Result<(), Fault> {
+    if words.files.is_empty() {
+        return Err(Fault::Usage(String::from_str(alloc, NO_FILES)?));
+    }
+    Ok(())
+}
+
+fn refuse_files(alloc: Global, words: &StubWords<'_>) -> Result<(), Fault> {
+    if words.files.is_empty() {
+        return Ok(());
+    }
+    Err(Fault::Usage(String::from_str(alloc, FILES_TOO)?))
+}
+
+/// The bytes of a component that stands in for a host of a world of a text or a project, or for one
+/// that calls what it exports.
+fn stub_of_world<F: Files, S: Streams>(
+    alloc: Global,
+    wit: &str,
+    world: &str,
+    words: &StubWords<'_>,
+    files: &mut F,
+    streams: &mut S,
+) -> Result<Vec<u8>, Fault> {
+    let texts = WitFiles::read(alloc, files, streams, wit)?;
+    let file = wit;
+    let signature = texts.signature(alloc, Asked { wit, world, file }, words.features)?;
+    if words.caller {
+        return caller_of(alloc, wit, &signature);
+    }
+    provider_of(alloc, wit, signature)
+}
+
+/// The file of a component that exports what a world of this file imports.
+fn provider_of(alloc: Global, file: &str, world: Signature) -> Result<Vec<u8>, Fault> {
+    let asked = [world];
+    let stub = provider(alloc, &asked)?;
+    if let Some(func) = func_over_named(alloc, &stub)? {
+        return Err(over_named(alloc, file, "imports", func)?);
+    }
+    let [world] = &asked;
+    written(alloc, provider_file_of(alloc, world))
+}
+
+/// The file of a component that imports what the component or world of this file exports.
+fn caller_of(alloc: Global, file: &str, exported: &Signature) -> Result<Vec<u8>, Fault> {
+    let stub = caller(alloc, exported)?;
+    if let Some(func) = import_over_named(alloc, &stub)? {
+        return Err(over_named(alloc, file, "exports", func)?);
+    }
+    written(alloc, caller_file(alloc, &stub, exported))
 }
 
 /// The bytes of the component.
@@ -49,7 +130,7 @@ fn stub_bytes<F: Files>(
     if loaded.are_chosen() || loaded.bundle().is_some() {
         open_provider(alloc, &loaded)
     } else {
-        provider(alloc, loaded)
+        closed_provider(alloc, loaded)
     }
 }
 
@@ -87,7 +168,7 @@ fn importer<'s>(loaded: &'s LoadedFiles<'_>, func: &str) -> &'s str {
 }
 
 /// The file of a component that exports what these files import: behind it they link.
-fn provider(alloc: Global, loaded: LoadedFiles<'_>) -> Result<Vec<u8>, Fault> {
+fn closed_provider(alloc: Global, loaded: LoadedFiles<'_>) -> Result<Vec<u8>, Fault> {
     let names = names_of(alloc, &loaded)?;
     let components = loaded.into_components(alloc)?;
     let stub = provider_for(alloc, &components)?;
@@ -141,12 +222,7 @@ fn caller_of_last(alloc: Global, loaded: &LoadedFiles<'_>) -> Result<Vec<u8>, Fa
     let Some(last) = loaded.files().get(loaded.exporter()) else {
         return Err(Fault::Memory);
     };
-    let exported = signature(alloc, last.check(alloc)?)?;
-    let stub = caller(alloc, &exported)?;
-    if let Some(func) = import_over_named(alloc, &stub)? {
-        return Err(over_named(alloc, last.word(), "exports", func)?);
-    }
-    written(alloc, caller_file(alloc, &stub, &exported))
+    caller_of(alloc, last.word(), &signature(alloc, last.check(alloc)?)?)
 }
 
 /// The file of a stub, or why there is none.

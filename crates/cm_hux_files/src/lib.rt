@@ -31,7 +31,7 @@ pub use cm_binary::encode;
 pub use cm_bundle::Bundle;
 pub use cm_hux_json::{Object, ToValue, Value, event_object, line_of, signature_rows, type_text};
 pub use cm_match::{Choices, link_by};
-pub use cm_stubs::{Component, caller, provider_for};
+pub use cm_stubs::{Component, caller, provider, provider_for};
 pub use cm_tool_commands::{
     Asked, Checked, Disk, Fault as ToolFault, FileFault, Files, LIMIT, Linked, Outcome,
     UnfitReason, Usage, checked_of, conform_component, read_file, signature, text_of, words_of,

@@ -11,7 +11,7 @@ use crate::served::Served;
 use crate::serving::served_by;
 use crate::taking::{Arguments, arguments_of, bundle_in, is_bundle, part_of, read_bundle};
 use cm_binary_model::Component;
-use cm_bundle::{Bundle, ImportGroup, PartName, part_names};
+use cm_bundle::{Bundle, PartName, part_names};
 use cm_hux_words::ServeWords;
 use cm_match::link_by;
 use cm_match_model::{Choices, LinkReason};
@@ -154,32 +154,20 @@ impl<'a> LoadedFiles<'a> {
     /// How the parts of the bundle are linked that these are: so they have to link, behind a
     /// component that exports what it imports, where it is open.
     pub(crate) fn inside(&self, alloc: Global) -> Result<Arguments, Fault> {
-        let components = self.check(alloc, None)?;
+        let components = (&*self).check(alloc, None)?;
         let Some((name, bytes)) = &self.bundle else {
             return Err(Fault::Memory);
         };
         let bundle = read_bundle(alloc, name, bytes)?;
         let arguments = self.arguments(alloc, name, &bundle, &components)?;
-        self.link_parts(alloc, name, &bundle.front, components, &arguments)?;
-        Ok(arguments)
-    }
-
-    /// Sees to it that the parts of the bundle of this name link so, behind a component that
-    /// exports what stands in front of them.
-    fn link_parts(
-        &self,
-        alloc: Global,
-        name: &str,
-        front: &[ImportGroup<'_>],
-        components: Vec<Checked<'_>>,
-        arguments: &Arguments,
-    ) -> Result<(), Fault> {
-        if front.is_empty() {
+        if bundle.front.is_empty() {
             let served = arguments.served(alloc)?;
-            return not_made(self.link_served(alloc, components, &served));
+            not_made(self.link_served(alloc, components, &served))?;
+        } else {
+            let stub = stub_of(alloc, name, &bundle.front)?;
+            self.link_inside(alloc, &stub, components, &arguments)?;
         }
-        let stub = stub_of(alloc, name, front)?;
-        self.link_inside(alloc, &stub, components, arguments)
+        Ok(arguments)
     }
 
     /// Adds the parts of a bundle, which are linked so.

@@ -104,17 +104,18 @@ impl<'a> LoadedFiles<'a> {
 
     /// Sees to it that the components of a bundle link as its arguments say, behind what exports
     /// what it imports.
-    pub(crate) fn link_inside(
+    pub(crate) fn link_inside<'b>(
         &self,
         alloc: Global,
-        stub: &Component,
-        components: Vec<Checked<'_>>,
+        stub: &'b Component,
+        components: Vec<Checked<'b>>,
         arguments: &Arguments,
     ) -> Result<(), Fault> {
         let stub = valid_stub(alloc, stub)?;
         let exports = Provider::new(alloc, 0, stub.exports())?;
         let served = arguments.served_behind(alloc, &exports)?;
-        not_made(self.link_over(alloc, stub, components, &served))
+        self.link_over(alloc, stub, components, &served)?;
+        Ok(())
     }
 
     /// The linked set of a stub and the components, whose imports these exports serve.

@@ -6,7 +6,7 @@ use std::alloc::Global;
 use std::io::{BufWriter, Input, Read, Write};
 use std::{fs, io, rt};
 
-/// The input of a program, and files that it writes.
+/// The input of a program, files that it writes, and what is in folders.
 pub trait Streams {
     type Reader: Read + Drop;
 
@@ -20,6 +20,10 @@ pub trait Streams {
 
     /// A folder of this name, if there is none.
     fn create_folder(&mut self, name: &str) -> io::Result<()>;
+
+    /// The names of what is in the folder of this name, in any order; `NotADirectory` where it is
+    /// a file.
+    fn names(&mut self, alloc: Global, folder: &str) -> io::Result<Vec<String>>;
 }
 
 /// A file of this name, with nothing in it.
@@ -87,7 +91,7 @@ impl<'r, R> DiskStreams<'r, R> {
     }
 }
 
-impl<R: rt::Files + Input + AllocGlobal> Streams for DiskStreams<'_, R> {
+impl<R: rt::Files + Input + AllocGlobal + Clone + Drop> Streams for DiskStreams<'_, R> {
     type Reader = R::Reader;
 
     type Writer = BufWriter<R::File>;
@@ -102,5 +106,14 @@ impl<R: rt::Files + Input + AllocGlobal> Streams for DiskStreams<'_, R> {
 
     fn create_folder(&mut self, name: &str) -> io::Result<()> {
         fs::create_dir_all(self.rt, name)
+    }
+
+    fn names(&mut self, alloc: Global, folder: &str) -> io::Result<Vec<String>> {
+        let mut names = Vec::new(alloc);
+        for entry in fs::read_dir(self.rt, folder)? {
+            let entry = entry?;
+            names.push(String::from_str(alloc, entry.file_name())?)?;
+        }
+        Ok(names)
     }
 }

@@ -1,12 +1,22 @@
 //! The words of each command. Files stand in the order of the command line; options that were not
 //! given are `None` or `false`.
 
-/// `conform --wit W --world N FILE`
+/// `conform --wit W --world N [--features F,F,..] FILE`
 #[derive(Clone, Copy, Drop)]
 pub struct ConformWords<'a> {
     pub wit: &'a str,
     pub world: &'a str,
+    /// The features of a project that are wanted, with commas between them.
+    pub features: Option<&'a str>,
     pub file: &'a str,
+}
+
+/// `wit W [--world N] [--features F,F,..]`
+#[derive(Clone, Copy, Drop)]
+pub struct WitWords<'a> {
+    pub wit: &'a str,
+    pub world: Option<&'a str>,
+    pub features: Option<&'a str>,
 }
 
 /// `[--serve IMPORT=PROVIDER].. [--nearest]`
@@ -78,21 +88,27 @@ pub struct LiveWords<'a> {
     pub serve: ServeWords<'a>,
 }
 
-/// `stub FILE.. -o OUT`, or `stub --caller FILE.. -o OUT`
+/// `stub FILE.. -o OUT`, `stub --caller FILE.. -o OUT`, or `stub --wit W --world N -o OUT`
 #[derive(Drop)]
 pub struct StubWords<'a> {
     pub files: Vec<&'a str>,
     /// Whether the stub calls what the last file exports, or exports what nothing serves of what
     /// the files import.
     pub caller: bool,
+    /// A WIT text or project in the place of files, and the world of it that the stub stands in for
+    /// a host of, or calls.
+    pub wit: Option<&'a str>,
+    pub world: Option<&'a str>,
+    pub features: Option<&'a str>,
     pub out: &'a str,
     pub serve: ServeWords<'a>,
 }
 
-/// `diff A B [--world N [--world N]]`
+/// `diff A B [--world N [--world N]] [--features F,F,..]`
 #[derive(Drop)]
 pub struct DiffWords<'a> {
     pub old: &'a str,
     pub new: &'a str,
     pub worlds: Vec<&'a str>,
+    pub features: Option<&'a str>,
 }

@@ -44,8 +44,17 @@ const FILE: Word = Word {
 const WIT: Word = Word {
     name: "wit",
     value: "W",
-    help: "The file of the WIT text",
+    help: "The file of the WIT text, or the folder of a project",
     form: Form::Needed,
+    letter: None,
+    tie: Tie::Free,
+};
+
+const TEXTS: Word = Word {
+    name: "wit",
+    value: "W",
+    help: "The file of the WIT text, or the folder of a project",
+    form: Form::Word,
     letter: None,
     tie: Tie::Free,
 };
@@ -53,8 +62,53 @@ const WIT: Word = Word {
 const WORLD: Word = Word {
     name: "world",
     value: "N",
-    help: "The full name of the world, as a:b/w@1.0.0",
+    help: "The full name of the world, as a:b/w@1.0.0; of a project's own, w",
     form: Form::Needed,
+    letter: None,
+    tie: Tie::Free,
+};
+
+const FEATURES: Word = Word {
+    name: "features",
+    value: "F,F,..",
+    help: "Features whose unstable items are wanted",
+    form: Form::Choice,
+    letter: None,
+    tie: Tie::Free,
+};
+
+const ANY_FILES: Word = Word {
+    name: "files",
+    value: "FILE",
+    help: "Component files, in order",
+    form: Form::AnyWords,
+    letter: None,
+    tie: Tie::Free,
+};
+
+const TEXTS_OF_WORLD: Word = Word {
+    name: "wit",
+    value: "W",
+    help: "In the place of files: a WIT text, or the folder of a project",
+    form: Form::Choice,
+    letter: None,
+    tie: Tie::With("world"),
+};
+
+const STOOD_FOR: Word = Word {
+    name: "world",
+    value: "N",
+    help: "The world of the text that it stands in for a host of",
+    form: Form::Choice,
+    letter: None,
+    tie: Tie::With("wit"),
+};
+
+const SHOWN_WORLD: Word = Word {
+    name: "world",
+    value: "N",
+    help: "The name of the world, in full where it is not a project's own; else all are named",
+    form: Form::Choice,
     letter: None,
     tie: Tie::Free,
 };
@@ -303,7 +357,7 @@ const WORLDS: Word = Word {
 };
 
 /// The commands, in the order of the help.
-pub(crate) const COMMANDS: [Described; 13] = [
+pub(crate) const COMMANDS: [Described; 14] = [
     Described {
         name: "check",
         about: "Says of each file, in a line, that it is a valid component, or what is wrong \
@@ -348,7 +402,21 @@ prints
   hux conform --wit adder.wit --world docs:adder/adder@1.0.0 adder.wasm
 prints
   ok",
-        words: &[FILE, WIT, WORLD],
+        words: &[FILE, WIT, WORLD, FEATURES],
+    },
+    Described {
+        name: "wit",
+        about: "Prints the worlds of a WIT project, or what one imports and exports",
+        example: "\
+A project is a folder: its files are one package, and those that they name stand in its
+deps folder, each in a file or a folder. What is behind @unstable is there where its feature
+is named.
+
+Example:
+  hux wit wit --world adder
+prints
+  export add: func(x: u32, y: u32) -> u32;",
+        words: &[TEXTS, SHOWN_WORLD, FEATURES],
     },
     Described {
         name: "link",
@@ -445,13 +513,22 @@ prints, to the lines begin 1 and call 0 i32:41,
         about: "Writes a component that stands in for a host",
         example: "\
 It exports what nothing serves of what the files import, or with --caller imports what the
-last one exports.
+last one exports. With --wit it does so of a world, with no component at hand.
 
 Example:
   hux stub command.wasm -o host.wasm
   hux stub --caller command.wasm -o caller.wasm
   hux link host.wasm command.wasm caller.wasm",
-        words: &[FILES, STUB_FILE, SERVE, NEAREST, CALLER],
+        words: &[
+            ANY_FILES,
+            STUB_FILE,
+            SERVE,
+            NEAREST,
+            CALLER,
+            TEXTS_OF_WORLD,
+            STOOD_FOR,
+            FEATURES,
+        ],
     },
     Described {
         name: "explain",
@@ -471,7 +548,7 @@ and its usual cause, what to do, and the section of the standard.",
         name: "diff",
         about: "Says what a component or world in place of another breaks, and for whom",
         example: "\
-Each of the two is a component file, or a WIT text with a world in it. Status 1 where
+Each of the two is a component file, or a WIT text or project with a world. Status 1 where
 something breaks for users, who import what A exports, or for hosts, which export what A
 imports. What may clash breaks only where another component exports it too.
 
@@ -480,6 +557,6 @@ Example:
 prints
   export greet is gone (breaks users)
   export welcome is new (may clash)",
-        words: &[OLD, NEW, WORLDS],
+        words: &[OLD, NEW, WORLDS, FEATURES],
     },
 ];

@@ -9,7 +9,7 @@ mod words;
 
 pub use asked::{
     CallWords, ConformWords, DiffWords, LinkWords, LiveWords, PlayWords, PlugWords, ServeWords,
-    StubWords,
+    StubWords, WitWords,
 };
 pub use program::VERSION;
 pub use request::{Answer, Habits, Request, WordsFault};

@@ -2,7 +2,7 @@
 
 use crate::asked::{
     CallWords, ConformWords, DiffWords, LinkWords, LiveWords, PlayWords, PlugWords, ServeWords,
-    StubWords,
+    StubWords, WitWords,
 };
 use crate::program::program;
 use clap::error::ErrorKind;
@@ -18,8 +18,10 @@ pub enum Request<'a> {
     Show { file: &'a str },
     /// `core FILE`
     Core { file: &'a str },
-    /// `conform --wit W --world N FILE`
+    /// `conform --wit W --world N [--features F,F,..] FILE`
     Conform(ConformWords<'a>),
+    /// `wit W [--world N] [--features F,F,..]`
+    Wit(WitWords<'a>),
     /// `link FILE.. [-o OUT [--export I]] [--open] [--mermaid]`
     Link(LinkWords<'a>),
     /// `unbundle FILE -o DIR`
@@ -32,11 +34,11 @@ pub enum Request<'a> {
     Call(CallWords<'a>),
     /// `live FILE.. [--record SCRIPT] [--limit N] [--pages N,N,..] [--values]`
     Live(LiveWords<'a>),
-    /// `stub FILE.. -o OUT`, or `stub --caller FILE.. -o OUT`
+    /// `stub FILE.. -o OUT`, `stub --caller FILE.. -o OUT`, or `stub --wit W --world N -o OUT`
     Stub(StubWords<'a>),
     /// `explain WHAT..`
     Explain { words: Vec<&'a str> },
-    /// `diff A B [--world N [--world N]]`
+    /// `diff A B [--world N [--world N]] [--features F,F,..]`
     Diff(DiffWords<'a>),
 }
 
@@ -125,6 +127,7 @@ fn request_of<'a>(alloc: Global, matches: &ArgMatches<'a>) -> Result<Request<'a>
         Some(("show", found)) => show(alloc, found),
         Some(("core", found)) => core(alloc, found),
         Some(("conform", found)) => conform(alloc, found),
+        Some(("wit", found)) => wit(alloc, found),
         Some((name, found)) => request_of_many(alloc, name, found),
         None => Err(no_command(alloc)),
     }
@@ -181,7 +184,21 @@ fn conform<'a>(alloc: Global, found: &ArgMatches<'a>) -> Result<Request<'a>, Wor
     let wit = value_of(alloc, found, "wit")?;
     let world = value_of(alloc, found, "world")?;
     let file = value_of(alloc, found, "file")?;
-    Ok(Request::Conform(ConformWords { wit, world, file }))
+    Ok(Request::Conform(ConformWords {
+        wit,
+        world,
+        features: found.get_str("features"),
+        file,
+    }))
+}
+
+fn wit<'a>(alloc: Global, found: &ArgMatches<'a>) -> Result<Request<'a>, WordsFault> {
+    let wit = value_of(alloc, found, "wit")?;
+    Ok(Request::Wit(WitWords {
+        wit,
+        world: found.get_str("world"),
+        features: found.get_str("features"),
+    }))
 }
 
 fn link<'a>(alloc: Global, found: &ArgMatches<'a>) -> Result<Request<'a>, WordsFault> {
@@ -254,11 +271,14 @@ fn live<'a>(alloc: Global, found: &ArgMatches<'a>) -> Result<Request<'a>, WordsF
 
 fn stub<'a>(alloc: Global, found: &ArgMatches<'a>) -> Result<Request<'a>, WordsFault> {
     let out = value_of(alloc, found, "out")?;
-    let files = values_of(alloc, found, "files")?;
+    let files = all_of(alloc, found, "files")?;
     let caller = found.get_flag("caller");
     Ok(Request::Stub(StubWords {
         files,
         caller,
+        wit: found.get_str("wit"),
+        world: found.get_str("world"),
+        features: found.get_str("features"),
         out,
         serve: serve_words(alloc, found)?,
     }))
@@ -273,7 +293,12 @@ fn diff<'a>(alloc: Global, found: &ArgMatches<'a>) -> Result<Request<'a>, WordsF
     let old = value_of(alloc, found, "old")?;
     let new = value_of(alloc, found, "new")?;
     let worlds = all_of(alloc, found, "world")?;
-    Ok(Request::Diff(DiffWords { old, new, worlds }))
+    Ok(Request::Diff(DiffWords {
+        old,
+        new,
+        worlds,
+        features: found.get_str("features"),
+    }))
 }
 
 /// What is said of the links of files.

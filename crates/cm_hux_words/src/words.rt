@@ -23,6 +23,8 @@ pub(crate) enum Form {
     Word,
     /// One word or more.
     Words,
+    /// Any number of words.
+    AnyWords,
     /// An option without a value.
     Flag,
     /// The same, which the help does not name.
@@ -49,20 +51,20 @@ pub(crate) enum Tie {
 
 impl Form {
     fn is_option(self) -> bool {
-        !matches!(self, Form::Word | Form::Words)
+        !matches!(self, Form::Word | Form::Words | Form::AnyWords)
     }
 
     fn is_required(self) -> bool {
         !matches!(
             self,
-            Form::Flag | Form::Hidden | Form::Choice | Form::Choices
+            Form::Flag | Form::Hidden | Form::Choice | Form::Choices | Form::AnyWords
         )
     }
 
     fn action(self) -> ArgAction {
         match self {
             Form::Flag | Form::Hidden => ArgAction::SetTrue,
-            Form::Words | Form::Choices | Form::NeededAgain => ArgAction::Append,
+            Form::Words | Form::AnyWords | Form::Choices | Form::NeededAgain => ArgAction::Append,
             Form::Word | Form::Choice | Form::Needed => ArgAction::Set,
         }
     }
@@ -91,7 +93,7 @@ impl Word {
         match self.form {
             Form::Flag => arg,
             Form::Hidden => arg.hide(true),
-            Form::Words => arg.value_name(self.value).num_args(1..),
+            Form::Words | Form::AnyWords => arg.value_name(self.value).num_args(1..),
             _ => arg.value_name(self.value),
         }
     }

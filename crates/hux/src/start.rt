@@ -19,7 +19,7 @@ For more information, try '--help'.
 /// Runs the command of the program's words, which come after its name, on the files of the disk,
 /// and answers how it ends. Words that matter are colored where they go to a terminal.
 pub fn start<
-    R: Env + Files + Input + AllocGlobal,
+    R: Env + Files + Input + AllocGlobal + Clone + Drop,
     O: Write + IsTerminal + Drop,
     E: Write + IsTerminal,
 >(rt: &R, out: O, err: &mut E) -> Ending {
@@ -35,7 +35,7 @@ pub fn start<
     }
 }
 
-fn run<R: Env + Files + Input + AllocGlobal, O: Write + IsTerminal + Drop, E: Write>(
+fn run<R: Env + Files + Input + AllocGlobal + Clone + Drop, O: Write + IsTerminal + Drop, E: Write>(
     rt: &R,
     out: O,
     err: &mut E,

@@ -36,4 +36,8 @@ impl Streams for GivenStreams<'_> {
     fn create_folder(&mut self, _name: &str) -> io::Result<()> {
         Err(io::Error::from(ErrorKind::Unsupported))
     }
+
+    fn names(&mut self, _alloc: Global, _folder: &str) -> io::Result<Vec<String>> {
+        Err(io::Error::from(ErrorKind::NotADirectory))
+    }
 }
