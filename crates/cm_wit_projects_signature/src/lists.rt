@@ -34,6 +34,13 @@ pub fn instance_of(item: &Item<'_>) -> Option<usize> {
     }
 }
 
+/// Notes the number of the list of a scope.
+fn note(places: &mut [Option<usize>], scope: usize, number: usize) {
+    if let Some(place) = places.get_mut(scope) {
+        *place = Some(number);
+    }
+}
+
 impl Lists {
     /// No lists, among so many scopes.
     fn none(alloc: Global, scopes: usize) -> Result<Lists, AllocError> {
@@ -49,13 +56,10 @@ impl Lists {
     /// Adds the list of a scope, and answers its number.
     fn add(&mut self, scope: usize, exported: bool) -> Result<usize, AllocError> {
         let number = self.all.len();
-        let places = if exported {
-            &mut self.exported
+        if exported {
+            note(&mut self.exported, scope, number);
         } else {
-            &mut self.imported
-        };
-        if let Some(place) = places.get_mut(scope) {
-            *place = Some(number);
+            note(&mut self.imported, scope, number);
         }
         put(&mut self.all, List { scope, exported })?;
         Ok(number)

@@ -141,5 +141,5 @@ pub fn project_signature(
 ) -> Result<Signature, SignatureFault> {
     let resource = TypeDef::Resource(Vec::new(alloc));
     let units = project.units(alloc)?;
-    signature_in(alloc, project, &units, &resource, name)
+    signature_in(alloc, &*project, &units, &resource, name)
 }
