@@ -140,6 +140,16 @@ pub fn project_signature(
     name: &str,
 ) -> Result<Signature, SignatureFault> {
     let resource = TypeDef::Resource(Vec::new(alloc));
+    signature_with(alloc, &*project, &resource, name)
+}
+
+/// The same, where this is what a resource is declared to be.
+fn signature_with<'a>(
+    alloc: Global,
+    project: &'a Project<'_>,
+    resource: &'a TypeDef,
+    name: &str,
+) -> Result<Signature, SignatureFault> {
     let units = project.units(alloc)?;
-    signature_in(alloc, &*project, &units, &resource, name)
+    signature_in(alloc, project, &units, resource, name)
 }
