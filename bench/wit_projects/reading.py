@@ -9,9 +9,9 @@ from dataclasses import dataclass, field
 from typing import Any
 
 KEYWORDS = set(
-    "as async bool borrow char constructor enum error-context export f32 f64 flags from func future "
-    "import include interface list map option own package record resource result s16 s32 s64 s8 "
-    "static stream string tuple type u16 u32 u64 u8 use variant with world".split()
+    "as async bool borrow char constructor enum error-context export f32 f64 flags from func "
+    "future import include interface list map option own package record resource result s16 s32 s64 "
+    "s8 static stream string tuple type u16 u32 u64 u8 use variant with world".split()
 )
 PRIMITIVES = set("bool s8 s16 s32 s64 u8 u16 u32 u64 char string".split())
 LEFT_OUT = set("f32 f64 own stream future error-context map".split())

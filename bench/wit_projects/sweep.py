@@ -141,19 +141,20 @@ def write_project(rng, folder):
     own = "mine:all@1.0.0" if rng.random() < 0.8 else "mine:all"
     blocks, worlds = writer.package(own, True)
     cut = rng.randint(0, len(blocks))
-    for file, part, head in (("a.wit", blocks[:cut], ""), ("b.wit", blocks[cut:], f"package {own};\n")):
-        (folder / file).write_text(head + "\n".join(sum(part, [])) + "\n")
+    head = f"package {own};\n"
+    for file, part, front in (("a.wit", blocks[:cut], ""), ("b.wit", blocks[cut:], head)):
+        (folder / file).write_text(front + "\n".join(sum(part, [])) + "\n")
     bare, _, version = own.partition("@")
     return [f"{bare}/{it}" + (f"@{version}" if version else "") for it in worlds]
 
 
-def names_of(items):
-    """The functions and resources of an interface: a second name for a resource is a type there."""
-    firsts = {}
+def names_of(owner, items, firsts):
+    """The functions and resources of an interface; a resource that has a name already, here or in
+    an interface before, is a type there."""
     for it in items:
-        firsts.setdefault(it.get("resource"), it["name"])
+        firsts.setdefault(it.get("resource"), (owner, it["name"]))
     return [it["name"] for it in items
-            if "func" in it or "resource" in it and firsts[it["resource"]] == it["name"]]
+            if "func" in it or "resource" in it and firsts[it["resource"]] == (owner, it["name"])]
 
 
 def told(hux, folder, world, features):
@@ -163,11 +164,12 @@ def told(hux, folder, world, features):
     if ran.returncode:
         found = re.match(rf"error: {re.escape(str(folder))}/(\S+?:\d+:\d+): (\w+)", ran.stderr)
         return f"{found[1]}: {found[2]}" if found else ran.stderr
-    sides = {"import": {}, "export": {}}
+    sides, firsts = {"import": {}, "export": {}}, {}
     for line in map(json.loads, ran.stdout.splitlines()):
         for side, table in sides.items():
             if side in line:
-                table[line[side]] = names_of(line["items"]) if "items" in line else None
+                name, items = line[side], line.get("items")
+                table[name] = None if items is None else names_of((side, name), items, firsts)
     return sides["import"], sides["export"]
 
 
@@ -185,8 +187,13 @@ def main():
     for number in range(count):
         with tempfile.TemporaryDirectory() as room:
             folder = Path(room)
-            for world in write_project(random.Random(f"{seed} {number}"), folder):
-                answers = (shape(told(hux, folder, world, ["on"])), shape(said(folder, world, ["on"])))
+            worlds = write_project(random.Random(f"{seed} {number}"), folder)
+            shown = [shape(told(hux, folder, it, ["on"])) for it in worlds]
+            # `hux` says of a world that its includes do not fit, the other resolver of the project.
+            fault = next((it for it in shown if isinstance(it, str)), None)
+            for world, one in zip(worlds, shown):
+                other = shape(said(folder, world, ["on"]))
+                answers = (fault if isinstance(other, str) else one, other)
                 asked += 1
                 faults += isinstance(answers[1], str)
                 if answers[0] != answers[1]:
