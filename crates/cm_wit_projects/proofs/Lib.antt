@@ -1,0 +1,4 @@
+mod EachLaws
+mod SeekLaws
+mod PackageLaws
+mod GatingLaws

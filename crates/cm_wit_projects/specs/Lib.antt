@@ -1,0 +1,10 @@
+pub mod Faults
+pub mod Files
+pub mod Packages
+pub mod Units
+pub mod Gates
+pub mod Views
+pub mod GateViews
+pub mod Listed
+pub mod ListedViews
+pub mod Worlds

@@ -1,0 +1,11 @@
+mod PlaceLaws
+mod MarkLaws
+mod LeftOutLaws
+mod PassingLaws
+mod GateLaws
+mod InterfaceLaws
+mod WorldLaws
+mod FileLaws
+mod TextLaws
+mod LineLaws
+mod SoughtLaws

@@ -1,0 +1,11 @@
+pub mod Trees
+pub mod Views
+pub mod Heads
+pub mod LeftOut
+pub mod Passing
+pub mod Gates
+pub mod Interfaces
+pub mod Worlds
+pub mod Files
+pub mod Texts
+pub mod Places

@@ -1,0 +1,4 @@
+mod RunLaws
+mod CommentLaws
+mod DigitLaws
+mod LexedLaws
