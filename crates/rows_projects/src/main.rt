@@ -1,6 +1,7 @@
 //! Answers the rows on WIT texts that projects write.
 #![tactic(auto)]
 
+mod projects;
 mod reading;
 
 use cm_rows::{Asked, Driver, Line, answer_families, word, words_from};
@@ -9,7 +10,7 @@ use std::io;
 use std::process::ExitCode;
 
 /// The families of rows, a file each.
-const FAMILIES: [&str; 1] = ["projects"];
+const FAMILIES: [&str; 2] = ["projects", "try"];
 
 /// Rows on projects leave nothing for later ones.
 #[derive(Drop)]
@@ -25,6 +26,7 @@ impl Driver for ProjectRows {
         match word(words, 0) {
             "read" => reading::answer(alloc, rest, line),
             "name" => reading::answer_name(alloc, rest, line),
+            "project" => projects::answer(alloc, rest, line),
             _ => line.refuse(),
         }
     }
