@@ -3,6 +3,7 @@
 
 mod projects;
 mod reading;
+mod worlds;
 
 use cm_rows::{Asked, Driver, Line, answer_families, word, words_from};
 use std::alloc::Global;
@@ -10,7 +11,7 @@ use std::io;
 use std::process::ExitCode;
 
 /// The families of rows, a file each.
-const FAMILIES: [&str; 2] = ["projects", "try"];
+const FAMILIES: [&str; 2] = ["projects", "worlds"];
 
 /// Rows on projects leave nothing for later ones.
 #[derive(Drop)]
@@ -27,6 +28,8 @@ impl Driver for ProjectRows {
             "read" => reading::answer(alloc, rest, line),
             "name" => reading::answer_name(alloc, rest, line),
             "project" => projects::answer(alloc, rest, line),
+            "world" => worlds::answer(alloc, rest, false, line),
+            "refuse" => worlds::answer(alloc, rest, true, line),
             _ => line.refuse(),
         }
     }

@@ -3,7 +3,7 @@
 use cm_rows::{Line, read_text, word, words_from};
 use cm_wit_projects::{ResolveFault, Source};
 use cm_wit_projects_names::resolve;
-use cm_wit_projects_reading::line_place;
+use cm_wit_projects_reading::{WitReason, line_place};
 use std::alloc::Global;
 
 /// A file of a row: its name, and its text.
@@ -44,36 +44,75 @@ fn sources_of<'a>(alloc: Global, files: &'a [RowFile], line: &mut Line) -> Vec<S
     sources
 }
 
-/// Writes `ok`, or the fault of a project: `project FEATURES ||| NAME TEXT || NAME TEXT ||| ..`.
-pub fn answer(alloc: Global, words: &[&str], line: &mut Line) {
-    let (head, rest) = line.split(words, "|||");
-    let folders = read_folders(alloc, rest, line);
-    let mut all = Vec::new(alloc);
-    for folder in &folders {
-        let sources = sources_of(alloc, folder, line);
-        line.push(&mut all, sources);
+/// The texts that a row spells, folder by folder.
+#[derive(Drop)]
+pub struct RowProject {
+    folders: Vec<Vec<RowFile>>,
+}
+
+/// What is done with a project of a row: its folders and its features are lent.
+pub trait Asks {
+    fn answer(&self, alloc: Global, groups: &[&[Source<'_>]], features: &[&str], line: &mut Line);
+}
+
+impl RowProject {
+    /// The texts of `NAME TEXT || NAME TEXT ||| ..`.
+    pub fn read(alloc: Global, words: &[&str], line: &mut Line) -> RowProject {
+        RowProject {
+            folders: read_folders(alloc, words, line),
+        }
     }
-    let mut groups = Vec::new(alloc);
-    for sources in &all {
-        line.push(&mut groups, sources.as_slice());
+
+    /// The files of each folder, as they are handed over.
+    fn sources(&self, alloc: Global, line: &mut Line) -> Vec<Vec<Source<'_>>> {
+        let mut all = Vec::new(alloc);
+        for folder in &self.folders {
+            let sources = sources_of(alloc, folder, line);
+            line.push(&mut all, sources);
+        }
+        all
     }
-    let mut features = Vec::new(alloc);
-    for feature in word(head, 0).split(',') {
-        line.push(&mut features, feature);
-    }
-    match resolve(alloc, &groups, &features) {
-        Ok(_project) => line.put("ok"),
-        Err(fault) => write_fault(&groups, fault, line),
+
+    /// Lends the project, where these features, with commas between them, are wanted.
+    pub fn ask<A: Asks>(&self, alloc: Global, features: &str, asks: &A, line: &mut Line) {
+        let all = self.sources(alloc, line);
+        let mut groups = Vec::new(alloc);
+        for sources in &all {
+            line.push(&mut groups, sources.as_slice());
+        }
+        let mut wanted = Vec::new(alloc);
+        for feature in features.split(',') {
+            line.push(&mut wanted, feature);
+        }
+        asks.answer(alloc, &groups, &wanted, line);
     }
 }
 
-/// Writes a fault, its file and its line.
+/// Whether a project is one.
+#[derive(Drop)]
+struct IsProject;
+
+impl Asks for IsProject {
+    fn answer(&self, alloc: Global, groups: &[&[Source<'_>]], features: &[&str], line: &mut Line) {
+        match resolve(alloc, groups, features) {
+            Ok(_project) => line.put("ok"),
+            Err(fault) => write_fault(groups, fault, line),
+        }
+    }
+}
+
+/// Writes `ok`, or the fault of a project: `FEATURES ||| NAME TEXT || NAME TEXT ||| ..`.
+pub fn answer(alloc: Global, words: &[&str], line: &mut Line) {
+    let (head, rest) = line.split(words, "|||");
+    let project = RowProject::read(alloc, rest, line);
+    project.ask(alloc, word(head, 0), &IsProject, line);
+}
+
+/// Writes a fault with its file, line and column.
 fn write_fault(groups: &[&[Source<'_>]], fault: ResolveFault, line: &mut Line) {
+    line.fail_if_memory(fault.fault.reason == WitReason::Memory);
     line.put(fault.fault.reason.name());
-    let Some(sources) = groups.get(fault.folder) else {
-        return;
-    };
-    if let Some(source) = sources.get(fault.file) {
+    if let Some(source) = source_at(groups, fault) {
         let place = line_place(source.text, fault.fault.at);
         line.put(" in ");
         line.put(source.name);
@@ -82,4 +121,10 @@ fn write_fault(groups: &[&[Source<'_>]], fault: ResolveFault, line: &mut Line) {
         line.put(", column ");
         line.show(place.column);
     }
+}
+
+/// The file in which a fault is.
+pub fn source_at<'a>(groups: &[&[Source<'a>]], fault: ResolveFault) -> Option<Source<'a>> {
+    let sources = groups.get(fault.folder)?;
+    sources.get(fault.file).copied()
 }
