@@ -1,21 +1,53 @@
 //! Graphs of what leads to what.
 
+ghost use Rattle.std.specs.Prelude.{◌≡◌, IfOk, OnOk, vec_len};
+ghost use Rattle.cm_wit_graph.specs.Graphs.{IsWithin};
+
 use cm_wit_graph::Graph;
 use std::alloc::{AllocError, Global};
 
-/// The graph of the edges that are between so many nodes.
-fn graph_of(alloc: Global, nodes: usize, edges: &[(usize, usize)]) -> Result<Graph, AllocError> {
-    let mut kept = Vec::new(alloc);
-    for (from, to) in edges {
-        if *from < nodes && *to < nodes {
-            kept.push((*from, *to))?;
-        }
+/// Adds an edge, where it is between so many nodes.
+fn keep(
+    out: &mut Vec<(usize, usize)>,
+    nodes: usize,
+    from: usize,
+    to: usize,
+) -> Result<(), AllocError>
+    ensures { OnOk result (IsWithin nodes out.old.items → IsWithin nodes out.new.items) }
+{
+    if from < nodes && to < nodes {
+        out.push((from, to))?;
     }
+    Ok(())
+}
+
+/// The edges that are between so many nodes.
+fn edges_within(
+    alloc: Global,
+    nodes: usize,
+    edges: &[(usize, usize)],
+) -> Result<Vec<(usize, usize)>, AllocError>
+    ensures { IfOk result (λ v. IsWithin nodes v.items) }
+{
+    let mut kept = Vec::new(alloc);
+    for edge in edges {
+        keep(&mut kept, nodes, edge.0, edge.1)?;
+    }
+    Ok(kept)
+}
+
+/// The graph of the edges that are between so many nodes.
+fn graph_of(alloc: Global, nodes: usize, edges: &[(usize, usize)]) -> Result<Graph, AllocError>
+    ensures { IfOk result (λ g. g.nodes ≡ nodes) }
+{
+    let kept = edges_within(alloc, nodes, edges)?;
     Graph::new(alloc, nodes, kept)
 }
 
 /// Marks of so many nodes, of which these are marked.
-fn marks_of(alloc: Global, nodes: usize, starts: &[usize]) -> Result<Vec<bool>, AllocError> {
+fn marks_of(alloc: Global, nodes: usize, starts: &[usize]) -> Result<Vec<bool>, AllocError>
+    ensures { IfOk result (λ v. vec_len v ≡ nodes) }
+{
     let mut marks = Vec::from_elem(alloc, false, nodes)?;
     for start in starts {
         if *start < marks.len() {

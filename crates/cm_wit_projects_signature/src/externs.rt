@@ -1,5 +1,9 @@
 //! Imports and exports.
 
+ghost use Rattle.std.specs.Prelude.{length};
+ghost use Rattle.cm_types_arena.specs.Places.{types_of};
+ghost use Rattle.cm_wit_meanings.specs.Places.{ArePlaced};
+
 use crate::items::push_items;
 use crate::lists::Lists;
 use cm_types::Label;
@@ -12,6 +16,7 @@ use cm_wit_projects_names::{Names, What, put};
 use cm_wit_projects_reading::Kept;
 use cm_wit_projects_worlds::{Item, Thing};
 use cm_wit_reading::Func;
+use cm_wit_signature::item_laws::tables_stay;
 use cm_wit_tables::Table;
 use std::alloc::{AllocError, Global};
 
@@ -87,7 +92,11 @@ fn push_own(
     parts: &Parts<'_, '_>,
     world: usize,
     place: usize,
-) -> Result<SharedDesc, MeaningFault> {
+) -> Result<SharedDesc, MeaningFault>
+    requires placed { ArePlaced (length (types_of types.old)) parts.now.table.now.meanings.items }
+    ensures placed { ArePlaced (length (types_of types.new)) parts.now.table.now.meanings.items }
+{
+    tables_stay();
     match (func_at(parts, world, place), parts.lists.at(world, false)) {
         (Some(func), Some(list)) => {
             let place = push_func(alloc, types, &parts.table.scope(list), func)?;
@@ -104,7 +113,10 @@ fn push_instance(
     parts: &Parts<'_, '_>,
     number: usize,
     exported: bool,
-) -> Result<SharedDesc, MeaningFault> {
+) -> Result<SharedDesc, MeaningFault>
+    requires placed { ArePlaced (length (types_of types.old)) parts.now.table.now.meanings.items }
+    ensures placed { ArePlaced (length (types_of types.new)) parts.now.table.now.meanings.items }
+{
     match (
         parts.names.scopes.get(number),
         parts.lists.at(number, exported),
@@ -124,7 +136,10 @@ fn push_desc(
     parts: &Parts<'_, '_>,
     exported: bool,
     thing: Thing,
-) -> Result<Option<SharedDesc>, MeaningFault> {
+) -> Result<Option<SharedDesc>, MeaningFault>
+    requires placed { ArePlaced (length (types_of types.old)) parts.now.table.now.meanings.items }
+    ensures placed { ArePlaced (length (types_of types.new)) parts.now.table.now.meanings.items }
+{
     match thing {
         Thing::Interface(number) => {
             Ok(Some(push_instance(alloc, types, parts, number, exported)?))
@@ -143,7 +158,10 @@ fn push_extern(
     exported: bool,
     item: &Item<'_>,
     out: &mut Vec<SharedExtern>,
-) -> Result<(), MeaningFault> {
+) -> Result<(), MeaningFault>
+    requires placed { ArePlaced (length (types_of types.old)) parts.now.table.now.meanings.items }
+    ensures placed { ArePlaced (length (types_of types.new)) parts.now.table.now.meanings.items }
+{
     if let Some(desc) = push_desc(alloc, types, parts, exported, item.thing)? {
         let name = named(parts, item)?;
         put(out, SharedExtern { name, desc })?;
@@ -159,7 +177,10 @@ pub fn push_externs(
     parts: &Parts<'_, '_>,
     exported: bool,
     items: &[Item<'_>],
-) -> Result<SharedExterns, MeaningFault> {
+) -> Result<SharedExterns, MeaningFault>
+    requires placed { ArePlaced (length (types_of types.old)) parts.now.table.now.meanings.items }
+    ensures placed { ArePlaced (length (types_of types.new)) parts.now.table.now.meanings.items }
+{
     let fronts = fronts_of(alloc, parts.units)?;
     let mut externs = Vec::new(alloc);
     for item in items {

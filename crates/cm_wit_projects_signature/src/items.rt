@@ -1,11 +1,16 @@
 //! The items of instances.
 
+ghost use Rattle.std.specs.Prelude.{length};
+ghost use Rattle.cm_types_arena.specs.Places.{types_of};
+ghost use Rattle.cm_wit_meanings.specs.Places.{ArePlaced};
+
 use cm_types::{Label, ResourceId};
 use cm_types_arena::{Front, ItemDesc, Placed, SharedItem, SharedItems, SharedName, Types};
 use cm_wit_meanings::{Meaning, MeaningFault, Scope as Lookup, push_func, push_resource_func};
 use cm_wit_projects_names::{Entry, Scope, What, alias_of, put};
 use cm_wit_projects_reading::{Kept, ResourceItem, TypeItem};
 use cm_wit_reading::{Func, ResourceFunc, Use};
+use cm_wit_signature::item_laws::tables_stay;
 use std::alloc::{AllocError, Global};
 
 /// The items of an instance while they are made.
@@ -118,7 +123,11 @@ fn add_method(
     lookup: &Lookup<'_, '_>,
     resource: &Label,
     func: &ResourceFunc,
-) -> Result<(), MeaningFault> {
+) -> Result<(), MeaningFault>
+    requires placed { ArePlaced (length (types_of types.old)) lookup.now.table.now }
+    ensures placed { ArePlaced (length (types_of types.new)) lookup.now.table.now }
+{
+    tables_stay();
     let Some(id) = made.resource else {
         return Err(MeaningFault::NoSuchType);
     };
@@ -142,7 +151,11 @@ fn add_func(
     lookup: &Lookup<'_, '_>,
     name: &Label,
     func: &Func,
-) -> Result<(), MeaningFault> {
+) -> Result<(), MeaningFault>
+    requires placed { ArePlaced (length (types_of types.old)) lookup.now.table.now }
+    ensures placed { ArePlaced (length (types_of types.new)) lookup.now.table.now }
+{
+    tables_stay();
     let place = push_func(alloc, types, lookup, func)?;
     add(&mut made.items, 0, name, ItemDesc::Func(Placed::at(place)))?;
     Ok(())
@@ -155,7 +168,10 @@ fn add_entry(
     made: &mut Made,
     lookup: &Lookup<'_, '_>,
     entry: &Entry<'_>,
-) -> Result<(), MeaningFault> {
+) -> Result<(), MeaningFault>
+    requires placed { ArePlaced (length (types_of types.old)) lookup.now.table.now }
+    ensures placed { ArePlaced (length (types_of types.new)) lookup.now.table.now }
+{
     match entry.what {
         What::Use(used) => add_used(made, lookup, used),
         What::Type(name, item) => add_type(made, lookup, name, item),
@@ -174,7 +190,10 @@ fn add_entries(
     made: &mut Made,
     lookup: &Lookup<'_, '_>,
     entries: &[Entry<'_>],
-) -> Result<(), MeaningFault> {
+) -> Result<(), MeaningFault>
+    requires placed { ArePlaced (length (types_of types.old)) lookup.now.table.now }
+    ensures placed { ArePlaced (length (types_of types.new)) lookup.now.table.now }
+{
     for entry in entries {
         if entry.there {
             add_entry(alloc, types, made, lookup, entry)?;
@@ -191,7 +210,10 @@ pub fn push_items(
     types: &mut Types,
     lookup: &Lookup<'_, '_>,
     scope: &Scope<'_>,
-) -> Result<SharedItems, MeaningFault> {
+) -> Result<SharedItems, MeaningFault>
+    requires placed { ArePlaced (length (types_of types.old)) lookup.now.table.now }
+    ensures placed { ArePlaced (length (types_of types.new)) lookup.now.table.now }
+{
     let mut made = Made {
         fronts: Vec::new(alloc),
         items: Vec::new(alloc),

@@ -1,5 +1,9 @@
 //! The signatures of worlds.
 
+ghost use Rattle.std.specs.Prelude.{length};
+ghost use Rattle.cm_types_arena.specs.Places.{types_of};
+ghost use Rattle.cm_wit_meanings.specs.Places.{ArePlaced};
+
 use crate::declaring::declarations_of;
 use crate::externs::{Parts, push_externs};
 use crate::fault::{SignatureFault, fault_of_meaning, fault_of_table};
@@ -22,9 +26,10 @@ fn signed(
     exports: SharedExterns,
 ) -> Result<Signature, SignatureFault> {
     let (all, funcs) = (types.len(), types.func_count());
-    let imported = are_externs_there(all, funcs, &imports.externs);
-    let exported = are_externs_there(all, funcs, &exports.externs);
-    if !imported || !exported {
+    if !are_externs_there(all, funcs, &imports.externs) {
+        return Err(SignatureFault::NoSuchType);
+    }
+    if !are_externs_there(all, funcs, &exports.externs) {
         return Err(SignatureFault::NoSuchType);
     }
     Ok(Signature::new(types, Externs::OfWorld(imports), Externs::OfWorld(exports)))
@@ -36,7 +41,10 @@ fn both_sides(
     types: &mut Types,
     parts: &Parts<'_, '_>,
     world: &World<'_>,
-) -> Result<(SharedExterns, SharedExterns), MeaningFault> {
+) -> Result<(SharedExterns, SharedExterns), MeaningFault>
+    requires placed { ArePlaced (length (types_of types.old)) parts.now.table.now.meanings.items }
+    ensures placed { ArePlaced (length (types_of types.new)) parts.now.table.now.meanings.items }
+{
     let imports = push_externs(alloc, types, parts, false, &world.imports)?;
     let exports = push_externs(alloc, types, parts, true, &world.exports)?;
     Ok((imports, exports))

@@ -74,3 +74,25 @@ pub fn find_world(
     }
     Ok(None)
 }
+
+/// The full names of the worlds of the project's own package, in order, but for those that gates
+/// take away. Refused only where there is no memory.
+pub fn world_names(
+    alloc: Global,
+    units: &[Unit<'_>],
+    names: &Names<'_>,
+) -> Result<Vec<String>, AllocError> {
+    let packages = &names.directory.packages;
+    let mut found = Vec::new(alloc);
+    for (number, declared) in names.directory.declared.iter().enumerate() {
+        let there = names.scopes.get(number).is_some_and(|scope| scope.there);
+        let is_own = packages.of_unit(declared.unit) == packages.of_unit(0);
+        if !is_world(declared) || !there || !is_own {
+            continue;
+        }
+        if let Some(unit) = units.get(declared.unit) {
+            found.push(full_name(alloc, unit, declared)?)?;
+        }
+    }
+    Ok(found)
+}

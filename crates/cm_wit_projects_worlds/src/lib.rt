@@ -9,6 +9,6 @@ mod marks;
 mod noted;
 mod reaching;
 
-pub use finding::find_world;
+pub use finding::{find_world, world_names};
 pub use item::{Item, Thing};
 pub use reaching::{World, world_at};
