@@ -58,7 +58,8 @@ fn name_spot(directory: &Directory<'_>, number: usize) -> Option<Spot> {
 }
 
 /// Checks that no interface uses itself and no world includes itself, by way of others or not. Of
-/// the first that does, `Cycle` comes at the name of the first that it leads to and that leads back.
+/// the first that does, `Cycle` comes at the name of the first that it leads to and that leads
+/// back.
 pub fn check_needs(
     alloc: Global,
     directory: &Directory<'_>,

@@ -8,7 +8,7 @@ use crate::mentions::mentions_of;
 use cm_wit_names::FirstKeys;
 use cm_wit_projects::{NamedPath, Unit, named_in};
 use cm_wit_projects_reading::{ResourceItem, TypeItem};
-use cm_wit_reading::ResourceFunc;
+use cm_wit_reading::{Path, ResourceFunc};
 use cm_wit_tokens::WitReason;
 use indexmap::IndexSet;
 use std::alloc::{AllocError, Global};
@@ -176,20 +176,16 @@ fn check_declared(seen: &mut Seen, directory: &Directory<'_>) -> Result<(), Spot
     Ok(())
 }
 
-/// Which of the names of a use at the top it gives.
+/// Which of the names of a use at the top it gives: the last of its path, or else the new one.
 fn top_name(top: &NamedPath<'_>) -> usize {
-    let names = match top.path {
-        cm_wit_reading::Path::Local(_) => 1,
-        cm_wit_reading::Path::Foreign { .. } => 3,
+    let (last, number, behind) = match top.path {
+        Path::Local(name) => (name, 0, 1),
+        Path::Foreign { interface, .. } => (interface, 2, 3),
     };
-    let last = match top.path {
-        cm_wit_reading::Path::Local(name) => name.as_str(),
-        cm_wit_reading::Path::Foreign { interface, .. } => interface.as_str(),
-    };
-    if last == top.name.as_str() {
-        names - 1
+    if last.as_str() == top.name.as_str() {
+        number
     } else {
-        names
+        behind
     }
 }
 

@@ -1,5 +1,7 @@
 //! Why a world has no signature.
 
+ghost use Rattle.cm_wit_projects_signature.specs.declared.fault.SignatureFault.TheVariants as fault;
+
 use cm_wit_meanings::MeaningFault;
 use cm_wit_projects::ResolveFault;
 use cm_wit_tables::TableFault;
@@ -36,7 +38,9 @@ impl SignatureFault {
 
 impl From<AllocError> for SignatureFault {
     ghost use Rattle.std.specs.Prelude.{◌≡◌};
-    ghost use Rattle.cm_wit_projects_signature.specs.declared.fault.SignatureFault.TheVariants as fault;
+    ghost use Rattle.cm_wit_projects_signature.specs.declared.fault.SignatureFault.{
+      TheVariants as fault,
+    };
 
     ghost from_gives = { λ _ e. e ≡ fault.Memory };
 

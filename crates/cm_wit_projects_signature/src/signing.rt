@@ -125,9 +125,9 @@ fn signature_in<'a>(
 }
 
 /// The signature of a world of a project by its full name (`namespace:package/world`, with
-/// `@version` where the package has one), or by its name alone in the project's own package (WIT.md,
-/// "Worlds"). A type that is declared to be what another name stands for is that type, also where
-/// it is a resource.
+/// `@version` where the package has one), or by its name alone in the project's own package
+/// (WIT.md, "Worlds"). A type that is declared to be what another name stands for is that type,
+/// also where it is a resource.
 ///
 /// `NoSuchWorld` comes where there is no such world, or gates take it away; `At` where its includes
 /// do not fit together, or it has a resource of its own (`cm_wit_projects_worlds`), at a byte of a

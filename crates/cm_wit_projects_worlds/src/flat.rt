@@ -338,8 +338,8 @@ fn make_all<'a>(
 /// stands once. What a world names by `use` is an import of its own, a type, behind the interface.
 ///
 /// `Duplicate` comes at the path of an include that brings a name that is there already;
-/// `UnknownName` at a name behind `with` that names nothing; `Unsupported` at the name of a resource
-/// that a world has of its own; and `Memory`. Each included world is written out once.
+/// `UnknownName` at a name behind `with` that names nothing; `Unsupported` at the name of a
+/// resource that a world has of its own; and `Memory`. Each included world is written out once.
 pub fn flat_world<'a>(
     alloc: Global,
     scopes: &[Scope<'a>],
