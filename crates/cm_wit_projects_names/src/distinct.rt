@@ -5,8 +5,9 @@ use crate::entry::{Entry, Scope, What};
 use crate::fault::Spot;
 use crate::mention::{Mention, Role};
 use crate::mentions::mentions_of;
+use crate::packages::Packages;
 use cm_wit_names::FirstKeys;
-use cm_wit_projects::{NamedPath, Unit, named_in};
+use cm_wit_projects::{NamedPath, Unit, declared_in, named_in};
 use cm_wit_projects_reading::{ResourceItem, TypeItem};
 use cm_wit_reading::{Path, ResourceFunc};
 use cm_wit_tokens::WitReason;
@@ -165,17 +166,6 @@ fn check_scope(seen: &mut Seen, scope: &Scope<'_>) -> Result<(), Spot> {
     Ok(())
 }
 
-/// Checks the names of the interfaces and worlds of packages, whose lists have their numbers.
-fn check_declared(seen: &mut Seen, directory: &Directory<'_>) -> Result<(), Spot> {
-    for declared in &directory.declared {
-        let list = directory.packages.of_unit(declared.unit);
-        if !seen.is_new(list, declared.body.name().as_str())? {
-            return Err(duplicate(declared.unit, declared.left, 0));
-        }
-    }
-    Ok(())
-}
-
 /// Which of the names of a use at the top it gives: the last of its path, or else the new one.
 fn top_name(top: &NamedPath<'_>) -> usize {
     let (last, number, behind) = match top.path {
@@ -189,40 +179,57 @@ fn top_name(top: &NamedPath<'_>) -> usize {
     }
 }
 
-/// Checks the names that uses at the top give, each in the list of its unit, from `first` on.
+/// Checks the names that uses at the top give, each in the list that has the number of its unit.
 fn check_tops(
     seen: &mut Seen,
     directory: &Directory<'_>,
     tops: &[NamedPath<'_>],
-    first: usize,
 ) -> Result<(), Spot> {
     for (top, place) in tops.iter().zip(&directory.places) {
-        if !seen.is_new(first.saturating_add(top.unit), top.name.as_str())? {
+        if !seen.is_new(top.unit, top.name.as_str())? {
             return Err(duplicate(top.unit, place.left, top_name(top)));
         }
     }
     Ok(())
 }
 
-/// Checks that names are distinct, without ASCII case: those of the interfaces and worlds of a
-/// package; those that uses at the top of a unit give; those of an interface, and of each side of a
-/// world; fields, cases, flags, parameters and functions of a resource. `Duplicate` comes at the
-/// first name that stands twice. (WIT.md, "Identifiers")
+/// Nothing is there yet, and the first list has this number.
+fn nothing(alloc: Global, next: usize) -> Seen {
+    Seen {
+        alloc,
+        names: FirstKeys::new(alloc),
+        next,
+    }
+}
+
+/// Checks that the names of the interfaces and worlds of each package are distinct, without ASCII
+/// case: `Duplicate` comes at the first that stands twice. (WIT.md, "Identifiers")
+pub fn check_declared(alloc: Global, units: &[Unit<'_>]) -> Result<(), Spot> {
+    let packages = Packages::new(alloc, units)?;
+    let declared = declared_in(alloc, units)?;
+    let mut seen = nothing(alloc, packages.count());
+    for one in &declared {
+        let list = packages.of_unit(one.unit);
+        if !seen.is_new(list, one.body.name().as_str())? {
+            return Err(duplicate(one.unit, one.left, 0));
+        }
+    }
+    Ok(())
+}
+
+/// Checks that names are distinct, without ASCII case: those that uses at the top of a unit give;
+/// those of an interface, and of each side of a world; fields, cases, flags, parameters and
+/// functions of a resource. `Duplicate` comes at the first name that stands twice. (WIT.md,
+/// "Identifiers")
 pub fn check_distinct(
     alloc: Global,
     units: &[Unit<'_>],
     directory: &Directory<'_>,
     scopes: &[Scope<'_>],
 ) -> Result<(), Spot> {
-    let first = directory.packages.count();
-    let mut seen = Seen {
-        alloc,
-        names: FirstKeys::new(alloc),
-        next: first.saturating_add(units.len()),
-    };
-    check_declared(&mut seen, directory)?;
+    let mut seen = nothing(alloc, units.len());
     let tops = named_in(alloc, units)?;
-    check_tops(&mut seen, directory, &tops, first)?;
+    check_tops(&mut seen, directory, &tops)?;
     for scope in scopes {
         check_scope(&mut seen, scope)?;
     }

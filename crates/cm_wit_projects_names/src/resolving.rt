@@ -2,7 +2,7 @@
 
 use crate::cycles::{check_needs, check_packages};
 use crate::directory::{Directory, directory_of};
-use crate::distinct::check_distinct;
+use crate::distinct::{check_declared, check_distinct};
 use crate::entry::Scope;
 use crate::fault::Spot;
 use crate::gates::{check_all_gates, check_reached};
@@ -51,18 +51,20 @@ pub fn read_names<'a>(
 
 /// What the names of units lead to, where these features are wanted, or what is wrong first.
 ///
-/// In this order: a path that leads nowhere (`UnknownName`, or `Cycle` where one with a package
-/// leads into its own); a name that stands twice (`Duplicate`); packages that lead to themselves,
-/// then interfaces and worlds that do (`Cycle`); a name of a type that leads to none, or a borrow
-/// to no resource (`UnknownName`), or a borrow in a result (`Unexpected`), and types that lead to
-/// themselves (`Cycle`); a gate that may not stand (`Unexpected`); and what is there and names what
-/// gates take away (`UnknownName`) or has a form that is left out (`Unsupported`). `Memory` comes
-/// where memory is refused. It takes time linear in the texts, with a look-up for each name.
+/// In this order: an interface or a world whose name stands twice (`Duplicate`); a path that leads
+/// nowhere (`UnknownName`, or `Cycle` where one with a package leads into its own); another name
+/// that stands twice (`Duplicate`); packages that lead to themselves, then interfaces and worlds
+/// that do (`Cycle`); a name of a type that leads to none, or a borrow to no resource
+/// (`UnknownName`), or a borrow in a result (`Unexpected`), and types that lead to themselves
+/// (`Cycle`); a gate that may not stand (`Unexpected`); and what is there and names what gates take
+/// away (`UnknownName`) or has a form that is left out (`Unsupported`). `Memory` comes where memory
+/// is refused. It takes time linear in the texts, with a look-up for each name.
 pub fn names_of<'a>(
     alloc: Global,
     units: &[Unit<'a>],
     features: &[&str],
 ) -> Result<Names<'a>, Spot> {
+    check_declared(alloc, units)?;
     let names = read_names(alloc, units, features)?;
     check_distinct(alloc, units, &names.directory, &names.scopes)?;
     check_scopes(alloc, units, &names.directory, &names.scopes)?;

@@ -1,4 +1,8 @@
 //! The signatures of the worlds of projects of WIT packages.
+//!
+//! `resolve` reads the files of folders and finds what their names lead to; `project_signature`
+//! writes out what a world includes, finds what it needs besides, and makes the types of all into
+//! one table. A component is held against it by `conforms` of `cm_wit_conforms`.
 #![tactic(auto)]
 
 mod declaring;

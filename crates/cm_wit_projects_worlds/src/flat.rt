@@ -337,8 +337,8 @@ fn make_all<'a>(
 /// of its text, and behind that what it includes (WIT.md, "Worlds"). An interface that comes twice
 /// stands once. What a world names by `use` is an import of its own, a type, behind the interface.
 ///
-/// `Duplicate` comes at the path of an include that brings a name that is there already;
-/// `UnknownName` at a name behind `with` that names nothing; `Unsupported` at the name of a
+/// `UnknownName` comes at a name behind `with` that names nothing; `Duplicate` at the path of an
+/// include that brings a name that is there already; `Unsupported` at the name of a
 /// resource that a world has of its own; and `Memory`. Each included world is written out once.
 pub fn flat_world<'a>(
     alloc: Global,

@@ -105,18 +105,29 @@ fn add_item<'a>(
     }
 }
 
+/// Items under their new names, where they get ones.
+fn renamed_all<'a>(
+    alloc: Global,
+    renaming: &mut Renaming<'a>,
+    items: &[Item<'a>],
+) -> Result<Vec<Item<'a>>, AllocError> {
+    let mut out = Vec::with_capacity(alloc, items.len())?;
+    for item in items {
+        put(&mut out, renamed(renaming, *item))?;
+    }
+    Ok(out)
+}
+
 /// Adds one side of an included world, and answers whether its names are new.
 fn add_side<'a>(
     noted: &mut Noted,
-    renaming: &mut Renaming<'a>,
     out: &mut Vec<Item<'a>>,
     exported: bool,
     stamp: usize,
     items: &[Item<'a>],
 ) -> Result<bool, AllocError> {
     for item in items {
-        let item = renamed(renaming, *item);
-        if !add_item(noted, out, exported, stamp, item)? {
+        if !add_item(noted, out, exported, stamp, *item)? {
             return Ok(false);
         }
     }
@@ -151,11 +162,35 @@ fn fault(unit: usize, entry: &Entry<'_>, name: usize, reason: WitReason) -> Spot
     }
 }
 
+/// What an included world has, under the new names that the include gives.
+fn renamed_flat<'a>(
+    alloc: Global,
+    renaming: &mut Renaming<'a>,
+    included: &Flat<'a>,
+) -> Result<Flat<'a>, AllocError> {
+    let imports = renamed_all(alloc, renaming, &included.imports)?;
+    let exports = renamed_all(alloc, renaming, &included.exports)?;
+    Ok(Flat { imports, exports })
+}
+
+/// Adds what an included world has, to a world that has this number among those that are made, and
+/// answers whether all its names are new.
+fn add_flat<'a>(
+    noted: &mut Noted,
+    out: &mut Flat<'a>,
+    stamp: usize,
+    included: &Flat<'a>,
+) -> Result<bool, AllocError> {
+    let imported = add_side(noted, &mut out.imports, false, stamp, &included.imports)?;
+    let exported = add_side(noted, &mut out.exports, true, stamp, &included.exports)?;
+    Ok(imported && exported)
+}
+
 /// Adds what an included world has, to a world of a unit that has this number among those that are
 /// made.
 ///
-/// `Duplicate` comes at the path where a name of the included world is there already, and
-/// `UnknownName` at the first name behind `with` that names nothing in it.
+/// `UnknownName` comes at the first name behind `with` that names nothing in the included world,
+/// and `Duplicate` at the path where a name of it is there already.
 pub fn add_included<'a>(
     alloc: Global,
     noted: &mut Noted,
@@ -167,23 +202,14 @@ pub fn add_included<'a>(
     included: &Flat<'a>,
 ) -> Result<(), Spot> {
     let mut renaming = renaming_of(alloc, noted, include)?;
-    let imports = &included.imports;
-    let exports = &included.exports;
-    let imported = add_side(
-        noted,
-        &mut renaming,
-        &mut out.imports,
-        false,
-        stamp,
-        imports,
-    )?;
-    let exported = add_side(noted, &mut renaming, &mut out.exports, true, stamp, exports)?;
-    if !imported || !exported {
-        return Err(fault(unit, entry, 0, WitReason::Duplicate));
-    }
+    let flat = renamed_flat(alloc, &mut renaming, included)?;
     if let Some(index) = first_unmet(&renaming.met) {
         let name = path_names(&include.path).saturating_add(index.saturating_mul(2));
         return Err(fault(unit, entry, name, WitReason::UnknownName));
     }
-    Ok(())
+    if add_flat(noted, out, stamp, &flat)? {
+        Ok(())
+    } else {
+        Err(fault(unit, entry, 0, WitReason::Duplicate))
+    }
 }
