@@ -186,6 +186,14 @@ impl<'a> TypeRow<'a> {
     fn is_resource(&self) -> bool {
         matches!(self.is, TypeIs::Declared(TypeItem::Resource(_)))
     }
+
+    /// The item that declares the type; a type that is used has none.
+    fn own_entry<'s>(&self, scopes: &'s [Scope<'a>]) -> Option<&'s Entry<'a>> {
+        match self.is {
+            TypeIs::Used(..) => None,
+            TypeIs::Declared(_) => entry_at(scopes, self.scope, self.entry),
+        }
+    }
 }
 
 impl<'a> TypeRows<'a> {
@@ -225,7 +233,7 @@ impl<'a> TypeRows<'a> {
     ) -> Result<Vec<(usize, usize)>, AllocError> {
         let mut edges = self.same_edges(alloc)?;
         for (from, row) in self.rows.iter().enumerate() {
-            if let Some(entry) = entry_at(scopes, row.scope, row.entry) {
+            if let Some(entry) = row.own_entry(scopes) {
                 add_named(alloc, &mut edges, &self.keys, from, row.scope, entry)?;
             }
         }
@@ -258,7 +266,7 @@ impl<'a> TypeRows<'a> {
     fn borrows(&self, alloc: Global, scopes: &[Scope<'a>]) -> Result<Vec<usize>, AllocError> {
         let mut out = Vec::new(alloc);
         for (place, row) in self.rows.iter().enumerate() {
-            if let Some(entry) = entry_at(scopes, row.scope, row.entry) {
+            if let Some(entry) = row.own_entry(scopes) {
                 if names_borrow(alloc, entry)? {
                     put(&mut out, place)?;
                 }
