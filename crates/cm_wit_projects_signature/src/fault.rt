@@ -1,5 +1,7 @@
 //! Why a world has no signature.
 
+ghost use Rattle.std.specs.Prelude.{◌≡◌};
+ghost use Rattle.cm_wit_projects_signature.specs.Faults as spec;
 ghost use Rattle.cm_wit_projects_signature.specs.declared.fault.SignatureFault.TheVariants as fault;
 
 use cm_wit_meanings::MeaningFault;
@@ -25,7 +27,9 @@ pub enum SignatureFault {
 
 impl SignatureFault {
     /// The number by which the fault is known, from 1 for `NoSuchWorld` to 5 for `Memory`.
-    pub fn number(self) -> u8 {
+    pub fn number(self) -> u8
+        ensures { result ≡ spec.signature_fault_number self }
+    {
         match self {
             SignatureFault::NoSuchWorld => 1,
             SignatureFault::At(_) => 2,
@@ -37,11 +41,6 @@ impl SignatureFault {
 }
 
 impl From<AllocError> for SignatureFault {
-    ghost use Rattle.std.specs.Prelude.{◌≡◌};
-    ghost use Rattle.cm_wit_projects_signature.specs.declared.fault.SignatureFault.{
-      TheVariants as fault,
-    };
-
     ghost from_gives = { λ _ e. e ≡ fault.Memory };
 
     fn from(_error: AllocError) -> SignatureFault {
@@ -50,7 +49,9 @@ impl From<AllocError> for SignatureFault {
 }
 
 /// The fault of a world whose types have no table for this reason.
-pub fn fault_of_table(fault: TableFault) -> SignatureFault {
+pub fn fault_of_table(fault: TableFault) -> SignatureFault
+    ensures { result ≡ spec.fault_of_table fault }
+{
     match fault {
         TableFault::NoSuchType | TableFault::Cycle => SignatureFault::NoSuchType,
         TableFault::TooLarge | TableFault::NotSpellable => SignatureFault::TooLarge,
@@ -59,7 +60,9 @@ pub fn fault_of_table(fault: TableFault) -> SignatureFault {
 }
 
 /// The fault of a world a function of which cannot be had for this reason.
-pub fn fault_of_meaning(fault: MeaningFault) -> SignatureFault {
+pub fn fault_of_meaning(fault: MeaningFault) -> SignatureFault
+    ensures { result ≡ spec.fault_of_meaning fault }
+{
     match fault {
         MeaningFault::NoSuchType => SignatureFault::NoSuchType,
         MeaningFault::TooLarge | MeaningFault::NotSpellable => SignatureFault::TooLarge,
