@@ -11,7 +11,7 @@ use std::io;
 use std::process::ExitCode;
 
 /// The families of rows, a file each.
-const FAMILIES: [&str; 2] = ["projects", "worlds"];
+const FAMILIES: [&str; 3] = ["projects", "resolving", "worlds"];
 
 /// Rows on projects leave nothing for later ones.
 #[derive(Drop)]
