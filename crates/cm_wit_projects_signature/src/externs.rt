@@ -111,16 +111,13 @@ fn push_instance(
     alloc: Global,
     types: &mut Types,
     parts: &Parts<'_, '_>,
+    list: Option<usize>,
     number: usize,
-    exported: bool,
 ) -> Result<SharedDesc, MeaningFault>
     requires placed { ArePlaced (length (types_of types.old)) parts.now.table.now.meanings.items }
     ensures placed { ArePlaced (length (types_of types.new)) parts.now.table.now.meanings.items }
 {
-    match (
-        parts.names.scopes.get(number),
-        parts.lists.at(number, exported),
-    ) {
+    match (parts.names.scopes.get(number), list) {
         (Some(scope), Some(list)) => {
             let items = push_items(alloc, types, &parts.table.scope(list), scope)?;
             Ok(SharedDesc::Instance(items))
@@ -134,17 +131,15 @@ fn push_desc(
     alloc: Global,
     types: &mut Types,
     parts: &Parts<'_, '_>,
-    exported: bool,
+    list: Option<usize>,
     thing: Thing,
 ) -> Result<Option<SharedDesc>, MeaningFault>
     requires placed { ArePlaced (length (types_of types.old)) parts.now.table.now.meanings.items }
     ensures placed { ArePlaced (length (types_of types.new)) parts.now.table.now.meanings.items }
 {
     match thing {
-        Thing::Interface(number) => {
-            Ok(Some(push_instance(alloc, types, parts, number, exported)?))
-        }
-        Thing::Inner(scope) => Ok(Some(push_instance(alloc, types, parts, scope, exported)?)),
+        Thing::Interface(number) => { Ok(Some(push_instance(alloc, types, parts, list, number)?)) }
+        Thing::Inner(scope) => Ok(Some(push_instance(alloc, types, parts, list, scope)?)),
         Thing::Func(world, place) => Ok(Some(push_own(alloc, types, parts, world, place)?)),
         Thing::Type => Ok(None),
     }
@@ -155,14 +150,14 @@ fn push_extern(
     alloc: Global,
     types: &mut Types,
     parts: &Parts<'_, '_>,
-    exported: bool,
+    list: Option<usize>,
     item: &Item<'_>,
     out: &mut Vec<SharedExtern>,
 ) -> Result<(), MeaningFault>
     requires placed { ArePlaced (length (types_of types.old)) parts.now.table.now.meanings.items }
     ensures placed { ArePlaced (length (types_of types.new)) parts.now.table.now.meanings.items }
 {
-    if let Some(desc) = push_desc(alloc, types, parts, exported, item.thing)? {
+    if let Some(desc) = push_desc(alloc, types, parts, list, item.thing)? {
         let name = named(parts, item)?;
         put(out, SharedExtern { name, desc })?;
     }
@@ -183,8 +178,9 @@ pub fn push_externs(
 {
     let fronts = fronts_of(alloc, parts.units)?;
     let mut externs = Vec::new(alloc);
-    for item in items {
-        push_extern(alloc, types, parts, exported, item, &mut externs)?;
+    for (place, item) in items.iter().enumerate() {
+        let list = parts.lists.of_item(place, exported);
+        push_extern(alloc, types, parts, list, item, &mut externs)?;
     }
     Ok(SharedExterns { fronts, externs })
 }

@@ -20,6 +20,9 @@ pub struct Lists {
     imported: Vec<Option<usize>>,
     /// The number of the list of each scope that is exported.
     exported: Vec<Option<usize>>,
+    /// The numbers of the lists of imports, and of exports, by their places.
+    of_imports: Vec<Option<usize>>,
+    of_exports: Vec<Option<usize>>,
 }
 
 /// The scope of an instance, if it is one.
@@ -38,11 +41,13 @@ impl Lists {
             all: Vec::new(alloc),
             imported: Vec::from_elem(alloc, None, scopes)?,
             exported: Vec::from_elem(alloc, None, scopes)?,
+            of_imports: Vec::new(alloc),
+            of_exports: Vec::new(alloc),
         })
     }
 
-    /// Adds the list of a scope.
-    fn add(&mut self, scope: usize, exported: bool) -> Result<(), AllocError> {
+    /// Adds the list of a scope, and answers its number.
+    fn add(&mut self, scope: usize, exported: bool) -> Result<usize, AllocError> {
         let number = self.all.len();
         let places = if exported {
             &mut self.exported
@@ -52,15 +57,27 @@ impl Lists {
         if let Some(place) = places.get_mut(scope) {
             *place = Some(number);
         }
-        put(&mut self.all, List { scope, exported })
+        put(&mut self.all, List { scope, exported })?;
+        Ok(number)
+    }
+
+    /// Adds the list of an import or an export, where it is an instance.
+    fn add_item(&mut self, item: &Item<'_>, exported: bool) -> Result<(), AllocError> {
+        let list = match instance_of(item) {
+            Some(scope) => Some(self.add(scope, exported)?),
+            None => None,
+        };
+        if exported {
+            put(&mut self.of_exports, list)
+        } else {
+            put(&mut self.of_imports, list)
+        }
     }
 
     /// Adds the lists of imports or exports.
     fn add_items(&mut self, items: &[Item<'_>], exported: bool) -> Result<(), AllocError> {
         for item in items {
-            if let Some(scope) = instance_of(item) {
-                self.add(scope, exported)?;
-            }
+            self.add_item(item, exported)?;
         }
         Ok(())
     }
@@ -68,7 +85,7 @@ impl Lists {
     /// Adds the lists of worlds.
     fn add_worlds(&mut self, worlds: &[usize]) -> Result<(), AllocError> {
         for world in worlds {
-            self.add(*world, false)?;
+            let _number = self.add(*world, false)?;
         }
         Ok(())
     }
@@ -80,6 +97,16 @@ impl Lists {
         lists.add_items(&world.exports, true)?;
         lists.add_worlds(&world.worlds)?;
         Ok(lists)
+    }
+
+    /// The list of an import or an export, by its place.
+    pub fn of_item(&self, place: usize, exported: bool) -> Option<usize> {
+        let lists = if exported {
+            &self.of_exports
+        } else {
+            &self.of_imports
+        };
+        lists.get(place).copied()?
     }
 
     /// The list of a scope on a side.

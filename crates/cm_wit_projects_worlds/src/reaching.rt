@@ -47,20 +47,36 @@ fn instance_of(item: &Item<'_>) -> Option<usize> {
     }
 }
 
-/// The node of an import, by its place: that of its scope, or where it has none one behind all
-/// scopes.
-fn node_of(item: &Item<'_>, place: usize, scopes: usize) -> usize {
-    match instance_of(item) {
-        Some(scope) => scope,
-        None => scopes.saturating_add(place),
+/// Adds the node of an import, by its place: that of an interface is its number, and behind all
+/// scopes there is one for each place. What an interface in place uses stands before it.
+fn add_node(
+    out: &mut Vec<usize>,
+    rows: &[Vec<usize>],
+    place: usize,
+    item: &Item<'_>,
+) -> Result<(), AllocError> {
+    let own = rows.len().saturating_add(place);
+    match item.thing {
+        Thing::Interface(number) => put(out, number),
+        Thing::Inner(scope) => {
+            if let Some(row) = rows.get(scope) {
+                add_row(out, &[], row)?;
+            }
+            put(out, own)
+        }
+        Thing::Func(..) | Thing::Type => put(out, own),
     }
 }
 
 /// The nodes of imports, in order.
-fn nodes_of(alloc: Global, items: &[Item<'_>], scopes: usize) -> Result<Vec<usize>, AllocError> {
+fn nodes_of(
+    alloc: Global,
+    rows: &[Vec<usize>],
+    items: &[Item<'_>],
+) -> Result<Vec<usize>, AllocError> {
     let mut nodes = Vec::new(alloc);
     for (place, item) in items.iter().enumerate() {
-        put(&mut nodes, node_of(item, place, scopes))?;
+        add_node(&mut nodes, rows, place, item)?;
     }
     Ok(nodes)
 }
@@ -161,23 +177,6 @@ fn item_at<'a>(items: &[Item<'a>], node: usize, scopes: usize) -> Option<Item<'a
     })
 }
 
-/// The items of interfaces in place, by the numbers of their scopes.
-fn inner_items<'a>(
-    alloc: Global,
-    items: &[Item<'a>],
-    scopes: usize,
-) -> Result<Vec<Option<Item<'a>>>, AllocError> {
-    let mut out = Vec::from_elem(alloc, None, scopes)?;
-    for item in items {
-        if let Thing::Inner(scope) = item.thing {
-            if let Some(slot) = out.get_mut(scope) {
-                *slot = Some(*item);
-            }
-        }
-    }
-    Ok(out)
-}
-
 /// The imports of nodes in an order.
 fn imports_of<'a>(
     alloc: Global,
@@ -185,17 +184,10 @@ fn imports_of<'a>(
     scopes: usize,
     order: &IndexSet<usize>,
 ) -> Result<Vec<Item<'a>>, AllocError> {
-    let inner = inner_items(alloc, items, scopes)?;
     let mut out = Vec::new(alloc);
     for node in order.iter() {
-        let own = match inner.get(*node) {
-            Some(own) => *own,
-            None => None,
-        };
-        match (own, item_at(items, *node, scopes)) {
-            (Some(item), _) => put(&mut out, item)?,
-            (None, Some(item)) => put(&mut out, item)?,
-            (None, None) => {}
+        if let Some(item) = item_at(items, *node, scopes) {
+            put(&mut out, item)?;
         }
     }
     Ok(out)
@@ -237,7 +229,7 @@ fn ordered<'a>(
         return Ok(None);
     }
     let mut order = IndexSet::new(alloc);
-    let nodes = nodes_of(alloc, imports, rows.len())?;
+    let nodes = nodes_of(alloc, rows, imports)?;
     let _own = place_all(alloc, rows, &nodes, &mut order)?;
     let _needed = place_all(alloc, rows, &needs, &mut order)?;
     Ok(Some(imports_of(alloc, imports, rows.len(), &order)?))
