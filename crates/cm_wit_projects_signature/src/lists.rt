@@ -34,6 +34,21 @@ pub fn instance_of(item: &Item<'_>) -> Option<usize> {
     }
 }
 
+/// Notes the list of a scope.
+fn note(lists: &mut [Option<usize>], scope: usize, number: usize) {
+    if let Some(list) = lists.get_mut(scope) {
+        *list = Some(number);
+    }
+}
+
+/// The list at a place.
+fn list_at(lists: &[Option<usize>], place: usize) -> Option<usize> {
+    match lists.get(place) {
+        Some(list) => *list,
+        None => None,
+    }
+}
+
 impl Lists {
     /// No lists, among so many scopes.
     fn none(alloc: Global, scopes: usize) -> Result<Lists, AllocError> {
@@ -49,13 +64,10 @@ impl Lists {
     /// Adds the list of a scope, and answers its number.
     fn add(&mut self, scope: usize, exported: bool) -> Result<usize, AllocError> {
         let number = self.all.len();
-        let places = if exported {
-            &mut self.exported
+        if exported {
+            note(&mut self.exported, scope, number);
         } else {
-            &mut self.imported
-        };
-        if let Some(place) = places.get_mut(scope) {
-            *place = Some(number);
+            note(&mut self.imported, scope, number);
         }
         put(&mut self.all, List { scope, exported })?;
         Ok(number)
@@ -101,22 +113,20 @@ impl Lists {
 
     /// The list of an import or an export, by its place.
     pub fn of_item(&self, place: usize, exported: bool) -> Option<usize> {
-        let lists = if exported {
-            &self.of_exports
+        if exported {
+            list_at(&self.of_exports, place)
         } else {
-            &self.of_imports
-        };
-        lists.get(place).copied()?
+            list_at(&self.of_imports, place)
+        }
     }
 
     /// The list of a scope on a side.
     pub fn at(&self, scope: usize, exported: bool) -> Option<usize> {
-        let places = if exported {
-            &self.exported
+        if exported {
+            list_at(&self.exported, scope)
         } else {
-            &self.imported
-        };
-        places.get(scope).copied()?
+            list_at(&self.imported, scope)
+        }
     }
 
     /// The list of an interface of which what stands on a side uses types: the exported one, where

@@ -142,12 +142,11 @@ fn add_own<'a>(
         if let Some(fault) = resource_fault(scope.unit, entry) {
             return Err(fault);
         }
-        let side = if entry.exported {
-            &mut out.exports
+        if entry.exported {
+            add_extern(noted, &mut out.exports, stamp, world, place, entry)?;
         } else {
-            &mut out.imports
-        };
-        add_extern(noted, side, stamp, world, place, entry)?;
+            add_extern(noted, &mut out.imports, stamp, world, place, entry)?;
+        }
     }
     Ok(())
 }
