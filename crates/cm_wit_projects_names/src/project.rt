@@ -4,6 +4,7 @@ use crate::fault::Spot;
 use crate::resolving::{Names, names_of, read_names};
 use cm_wit_projects::{ResolveFault, Source, Unit, check_packages, read_folders, units_of};
 use cm_wit_projects_reading::{WitFile, name_place};
+use cm_wit_reading::TypeDef;
 use cm_wit_tokens::WitReason;
 use std::alloc::{AllocError, Global};
 
@@ -13,6 +14,7 @@ pub struct Project<'s> {
     groups: &'s [&'s [Source<'s>]],
     features: &'s [&'s str],
     files: Vec<Vec<WitFile>>,
+    resource: TypeDef,
 }
 
 /// The text of a file, or none where there is no such file.
@@ -74,6 +76,11 @@ impl<'s> Project<'s> {
         self.groups
     }
 
+    /// What stands for each resource where types are listed: one without functions.
+    pub fn resource(&self) -> &TypeDef {
+        &self.resource
+    }
+
     /// The packages of the project, file by file. Refused only where there is no memory.
     pub fn units(&self, alloc: Global) -> Result<Vec<Unit<'_>>, AllocError> {
         units_of(alloc, &self.files)
@@ -106,5 +113,6 @@ pub fn resolve<'s>(
         groups,
         features,
         files,
+        resource: TypeDef::Resource(Vec::new(alloc)),
     })
 }

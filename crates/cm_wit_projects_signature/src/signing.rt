@@ -139,7 +139,6 @@ pub fn project_signature(
     project: &Project<'_>,
     name: &str,
 ) -> Result<Signature, SignatureFault> {
-    let resource = TypeDef::Resource(Vec::new(alloc));
     let units = project.units(alloc)?;
-    signature_in(alloc, project, &units, &resource, name)
+    signature_in(alloc, project, &units, project.resource(), name)
 }
