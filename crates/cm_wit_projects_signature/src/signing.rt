@@ -133,7 +133,8 @@ fn signature_in<'a>(
 /// do not fit together, or it has a resource of its own (`cm_wit_projects_worlds`), at a byte of a
 /// file; `TooLarge` where a type, or the parameters or the result of a function, would have more
 /// than 10,000 nodes or be more than 64 deep; and `Memory`. It takes time and memory linear in the
-/// project, with a look-up for each name.
+/// project, with a look-up for each name, but for a chain of includes, which takes its length times
+/// the items that it brings.
 pub fn project_signature(
     alloc: Global,
     project: &Project<'_>,

@@ -241,7 +241,8 @@ fn ordered<'a>(
 /// interfaces of which it uses types and that are not there yet, and then what its exports use that
 /// the world does not export. Faults are those of `flat_world`, and `Unexpected` at the name of a
 /// world an export of which needs another one by way of an interface that is not exported. It takes
-/// time linear in the project.
+/// time linear in the project, but for includes of includes: each world that is included gets the
+/// items of those that it includes anew, so a chain of them takes its length times their items.
 pub fn world_at<'a>(alloc: Global, names: &Names<'a>, number: usize) -> Result<World<'a>, Spot> {
     let flat = flat_world(alloc, &names.scopes, number)?;
     let rows = need_rows(alloc, &names.scopes)?;
